@@ -1,0 +1,5 @@
+pub mod Cells
+pub mod Endings
+pub mod Progress
+pub mod Chains
+pub mod RoundTrip
