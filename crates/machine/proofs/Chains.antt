@@ -14,7 +14,10 @@ use Rattle.machine.specs.declared.state.Ending.{Ending}
 use Rattle.machine.specs.declared.state.Ending.the-variants.{Halted}
 use Rattle.machine.specs.Instructions.{State}
 use Rattle.machine.specs.Runs.{price, Chain, here, more, Ran, Alone, run-for, enough, run}
+use Rattle.machine.specs.declared.state.Step.the-variants.{Ended}
+use Rattle.machine.specs.Seen.{stepped}
 use Rattle.machine.specs.Steps.{step}
+use Rattle.machine.proofs.Endings.{ended-is}
 use Rattle.machine.proofs.Progress.{step-spends, step-falls}
 
 module _ {Cell : Type 0} (m : Meaning Cell) (code places : List ℕ) where
@@ -78,9 +81,15 @@ module _ {Cell : Type 0} (m : Meaning Cell) (code places : List ℕ) where
   pub run-next : (t u : State Cell) → step m code places t ≡ Ok u → run m code places t ≡ run m code places u
   run-next t u is = run-to t _ _ _ (more t u _ _ is (ran u .chain)) (ran u .last)
 
-  pub run-end : (t : State Cell) (e : Ending) → step m code places t ≡ Err e → run m code places t ≡ (e, t)
+  run-end : (t : State Cell) (e : Ending) → step m code places t ≡ Err e → run m code places t ≡ (e, t)
   run-end t e is = run-to t 0 e t (here t) is
 
   -- what is known of a run's answer and last state
   pub told : (t : State Cell) (e : Ending) (u : State Cell) → (e, u) ≡ run m code places t → Ran m code places t e u × Alone m code places t e u
   told t e u is = subst (λ r. Ran m code places t (r .0) (r .1) × Alone m code places t (r .0) (r .1)) (sym is) (ran t, alone t)
+
+  -- a run that has come from t to u, where a step ends it
+  pub finished : (t u v : State Cell) (e : Ending) → run m code places u ≡ run m code places t → (Ended e, v) ≡ stepped u (step m code places u) → (e, v) ≡ run m code places t
+  finished t u v e same last =
+      let x = ended-is u v (step m code places u) e last in
+      ap (λ w. (e, w)) (x .1) ∙ sym (run-end u e (x .0)) ∙ same

@@ -2,4 +2,3 @@ pub mod Cells
 pub mod Endings
 pub mod Progress
 pub mod Chains
-pub mod RoundTrip

@@ -21,14 +21,15 @@ use Rattle.std.proofs.shelf.Signed.{ints}
 use Rattle.std.proofs.str.Laws.{order}
 use Rattle.reckoning.specs.declared.Operator.{Operator}
 use Rattle.reckoning.specs.Meaning.{Meaning, applied}
-use Rattle.machine.specs.declared.instruction.Instruction.{Instruction}
-use Rattle.machine.specs.declared.instruction.Instruction.the-variants.{Halt, LoadConstant, LoadRelative, Load, Store, Pop, Operate, Negate, Not, Jump, JumpZero, Mark, Call, Enter, Allocate, Return, Check}
+use Rattle.instructions.specs.declared.Instruction.{Instruction}
+use Rattle.instructions.specs.declared.Instruction.the-variants.{Halt, LoadConstant, LoadRelative, Load, Store, Pop, Operate, Negate, Not, Jump, JumpZero, Mark, Call, Enter, Allocate, Return, Check}
 use Rattle.machine.specs.declared.state.Ending.{Ending}
 use Rattle.machine.specs.declared.state.Registers.{Registers}
-use Rattle.machine.specs.declared.state.Stop.{Stop}
-use Rattle.machine.specs.declared.state.Stop.the-variants.{Broken, Depth, Cells}
-use Rattle.machine.specs.Instructions.{State, _>>=_, register, cell, put, reckoned, spent, fewer, natural, clear, three, index, read-after, admitted, with-pc, with-sp, with-ep, with-budget, whole, address, saved, push, relative, load, store-top, pop, binary, negate, invert, jump, branch, mark, link, call, enter, allocate, leave, check}
+use Rattle.instructions.specs.declared.Stop.{Stop}
+use Rattle.instructions.specs.declared.Stop.the-variants.{Broken, Depth, Cells}
+use Rattle.machine.specs.Instructions.{State, _>>=_, register, cell, put, reckoned, spent, fewer, natural, clear, three, index, read-after, admitted, toll, tops, pushed, with-pc, with-sp, with-ep, with-budget, whole, address, saved, push, relative, load, store-top, pop, binary, negate, invert, jump, branch, mark, link, call, enter, allocate, leave, check}
 use Rattle.machine.specs.Runs.{charge, charged, price, address-of, enough}
+use Rattle.instructions.specs.Words.{decoded}
 use Rattle.machine.specs.Steps.{fetched, beside, goes, keeps, execute, act, outcome, step}
 
 -- P of what an operation gives, if it does not stop
@@ -49,6 +50,10 @@ all x k h = all-by x k (λ a _. h a)
 all-of : {X Y : Type 0} {Q : X → Type 0} {P : Y → Type 0} (x : Result X Stop) (k : X → Result Y Stop) → Each Q x → ((a : X) → Q a → Each P (k a)) → Each P (x >>= k)
 all-of (Ok a) k q h = h a (q .each)
 all-of (Err e) k q h = record { each = tt }
+
+weaker : {X : Type 0} {Q P : X → Type 0} (x : Result X Stop) → Each Q x → ((a : X) → Q a → P a) → Each P x
+weaker (Ok a) q h = record { each = h a (q .each) }
+weaker (Err e) q h = record { each = tt }
 
 -- How registers with the program counter past an instruction go on to q, for so many units: ahead, for a unit, or back from a function.
 pub data Moves (pc : ℤ) (active budget : ℕ) (q : Registers) : ℕ → Type 0 where
@@ -94,7 +99,7 @@ module _ {Cell : Type 0} (m : Meaning Cell) where
   On r t = From r (t .0) 0
 
   push-on : (n : ℤ) (r : Registers) (s : List Cell) → Each (On r) (push m n r s)
-  push-on n r s = all (whole m n) _ (λ c. all (register (r .sp +ℤ pos 1)) _ (λ sp. all (put s sp c) _ (λ t. on r (with-sp sp r) t refl refl refl)))
+  push-on n r s = all (whole m n) _ (λ c. all (pushed c s (r .sp)) _ (λ p. on r (with-sp (p .0) r) (p .1) refl refl refl))
 
   relative-on : (j : ℤ) (r : Registers) (s : List Cell) → Each (On r) (relative m j r s)
   unfolding relative
@@ -104,10 +109,10 @@ module _ {Cell : Type 0} (m : Meaning Cell) where
   load-on r s = all (cell s (r .sp)) _ (λ top. all (address m top) _ (λ a. all (cell s a) _ (λ c. all (put s (r .sp) c) _ (λ t. on r r t refl refl refl))))
 
   store-on : (r : Registers) (s : List Cell) → Each (On r) (store-top m r s)
-  store-on r s = all (cell s (r .sp)) _ (λ top. all (address m top) _ (λ a. all (register (r .sp -ℤ pos 1)) _ (λ sp. all (cell s sp) _ (λ c. all (put s a c) _ (λ t. on r (with-sp sp r) t refl refl refl)))))
+  store-on r s = all (tops s (r .sp)) _ (λ p. all (address m (p .2)) _ (λ a. all (put s a (p .1)) _ (λ t. on r (with-sp (p .0) r) t refl refl refl)))
 
   binary-on : (o : Operator) (r : Registers) (s : List Cell) → Each (On r) (binary m o r s)
-  binary-on o r s = all (cell s (r .sp)) _ (λ right. all (register (r .sp -ℤ pos 1)) _ (λ sp. all (cell s sp) _ (λ left. all (reckoned (applied m o left right)) _ (λ c. all (put s sp c) _ (λ t. on r (with-sp sp r) t refl refl refl)))))
+  binary-on o r s = all (tops s (r .sp)) _ (λ p. all (reckoned (applied m o (p .1) (p .2))) _ (λ c. all (put s (p .0) c) _ (λ t. on r (with-sp (p .0) r) t refl refl refl)))
 
   negate-on : (r : Registers) (s : List Cell) → Each (On r) (negate m r s)
   negate-on r s = all (cell s (r .sp)) _ (λ top. all (reckoned (m .negate top)) _ (λ c. all (put s (r .sp) c) _ (λ t. on r r t refl refl refl)))
@@ -137,12 +142,16 @@ module _ {Cell : Type 0} (m : Meaning Cell) where
   check-on n r s = all (cell s (r .sp)) _ (λ top. all (index (m .place top) n) _ (λ i. stays r r refl refl refl))
 
   -- a jump costs a unit exactly where it goes to an address not above its own
-  jump-by : (to own : ℤ) (r : Registers) (b : Bool) → r .pc ≡ own +ℤ pos 1 → ltZ to (r .pc) ≡ b → Each (λ q. From r q (cond (leZ (q .pc) own) 1 0)) (cond b (spent (r .budget) >>= λ left. Ok (with-budget left (with-pc to r))) (Ok (with-pc to r)))
-  jump-by to own r true is low = all-of (spent (r .budget)) _ (spent-one (r .budget)) (λ left less. record { each = rw (past-own to own (r .pc) true is low) (paid (omega arith) less) })
-  jump-by to own r false is low = record { each = rw (past-own to own (r .pc) false is low) (ahead (grind (arith, ints)) refl refl) }
+  toll-by : (to own pc : ℤ) (budget : ℕ) (b : Bool) → pc ≡ own +ℤ pos 1 → ltZ to pc ≡ b → Each (λ left. (b : Bool) × (leZ to own ≡ b) × (cond b (budget ≡ suc left) ((pc ≤ℤ to) × (left ≡ budget)))) (cond b (spent budget) (Ok budget))
+  toll-by to own pc budget true is low = weaker (spent budget) (spent-one budget) (λ left less. (true, past-own to own pc true is low, less))
+  toll-by to own pc budget false is low = record { each = (false, past-own to own pc false is low, (grind (arith, ints), refl)) }
 
   jump-moves : (to own : ℤ) (r : Registers) → r .pc ≡ own +ℤ pos 1 → Each (λ q. From r q (cond (leZ (q .pc) own) 1 0)) (jump to r)
-  jump-moves to own r is = jump-by to own r (ltZ to (r .pc)) is refl
+  jump-moves to own r is = all-of (toll to (r .pc) (r .budget)) _ (toll-by to own (r .pc) (r .budget) (ltZ to (r .pc)) is refl) (λ left paying. record { each = go left (paying .0) (paying .1) (paying .2) })
+    where
+      go : (left : ℕ) (b : Bool) → leZ to own ≡ b → cond b (r .budget ≡ suc left) ((r .pc ≤ℤ to) × (left ≡ r .budget)) → From r (with-budget left (with-pc to r)) (cond (leZ to own) 1 0)
+      go left true low less = rw low (paid (omega arith) less)
+      go left false low less = rw low (ahead (less .0) refl (less .1))
 
   branch-by : (to own sp : ℤ) (r : Registers) (b : Bool) → r .pc ≡ own +ℤ pos 1 → Each (λ q. From r q (cond (leZ (q .pc) own) 1 0)) (cond b (Ok (with-sp sp r)) (jump to (with-sp sp r)))
   branch-by to own sp r true is =
@@ -153,15 +162,15 @@ module _ {Cell : Type 0} (m : Meaning Cell) where
   branch-moves : (to own : ℤ) (r : Registers) (s : List Cell) → r .pc ≡ own +ℤ pos 1 → Each (λ q. From r q (cond (leZ (q .pc) own) 1 0)) (branch m to r s)
   branch-moves to own r s is = all (cell s (r .sp)) _ (λ top. all (register (r .sp -ℤ pos 1)) _ (λ sp. all (reckoned (m .test top)) _ (λ b. branch-by to own sp r b is)))
 
-  admitted-one : (r : Registers) → Each (λ (q : Registers). (q .active ≡ r .active + 1) × (r .budget ≡ suc (q .budget))) (admitted r)
-  admitted-one r = go (leb 24 (r .active))
+  admitted-one : (active budget : ℕ) → Each (λ left. budget ≡ suc left) (admitted active budget)
+  admitted-one active budget = go (leb 24 active)
     where
-      go : (b : Bool) → Each (λ (q : Registers). (q .active ≡ r .active + 1) × (r .budget ≡ suc (q .budget))) (cond b (Err Depth) (spent (r .budget) >>= λ left. Ok (record { pc = r .pc; sp = r .sp; fp = r .fp; ep = r .ep; active = r .active + 1; budget = left })))
+      go : (b : Bool) → Each (λ left. budget ≡ suc left) (cond b (Err Depth) (spent budget))
       go true = record { each = tt }
-      go false = all-of (spent (r .budget)) _ (spent-one (r .budget)) (λ left less. record { each = (refl, less) })
+      go false = spent-one budget
 
   link-moves : (sp fp : ℤ) (c : Cell) (r : Registers) (s : List Cell) → Each (λ t. From r (t .0) 1) (link m sp fp c r s)
-  link-moves sp fp c r s = all (read-after s fp c (r .sp)) _ (λ top. all (address m top) _ (λ to. all-of (admitted r) _ (admitted-one r) (λ q one. all (put s fp c) _ (λ t. record { each = paid (omega (arith, one .0)) (one .1) }))))
+  link-moves sp fp c r s = all (read-after s fp c (r .sp)) _ (λ top. all (address m top) _ (λ to. all-of (admitted (r .active) (r .budget)) _ (admitted-one (r .active) (r .budget)) (λ left one. all (put s fp c) _ (λ t. record { each = paid (omega arith) one }))))
 
   call-moves : (n : ℤ) (r : Registers) (s : List Cell) → Each (λ t. From r (t .0) 1) (call m n r s)
   call-moves n r s = all (register (r .sp -ℤ pos 1)) _ (λ sp. all (register (sp -ℤ n)) _ (λ fp. all (whole m (r .pc)) _ (λ c. link-moves sp fp c r s)))
@@ -201,24 +210,31 @@ module _ {Cell : Type 0} (m : Meaning Cell) where
   execute-moves Return own r s is = keeping _ s _ (leave-moves r s)
   execute-moves (Check n) own r s is = keeping _ s _ (check-on n r s)
 
+  -- what the word at the program counter says
+  found : (code : List ℕ) (pc : ℤ) (w : ℕ) (i : Instruction) → cell code pc ≡ Ok w → okOr (decoded w) Broken ≡ Ok i → fetched code pc ≡ Ok i
+  found code pc w i at is = rw at is
+
   act-moves : (code : List ℕ) (r : Registers) (s : List Cell) → Each (Onward (λ t. Moves (r .pc +ℤ pos 1) (r .active) (r .budget) (t .0) (charged (fetched code (r .pc)) (r .pc) (t .0 .pc)))) (act m code r s)
   act-moves code r s =
-      all-by (fetched code (r .pc)) _ (λ i found. rw found (all-of (register (r .pc +ℤ pos 1)) _ (register-is (r .pc +ℤ pos 1)) (λ pc is. rw (sym is) (execute-moves i (r .pc) (with-pc pc r) s is))))
+      all-by (cell code (r .pc)) _ (λ w at.
+      all-of (register (r .pc +ℤ pos 1)) _ (register-is (r .pc +ℤ pos 1)) (λ pc is.
+      all-by (okOr (decoded w) Broken) _ (λ i known.
+      rw (found code (r .pc) w i at known, sym is) (execute-moves i (r .pc) (with-pc pc r) s is))))
 
   -- the instruction at the program counter is one of the code
   abbrev pub Inside : List ℕ → ℤ → Type 0
   Inside code pc = (n : ℕ) × (pc ≡ pos n) × (n < length code)
 
-  fetched-inside : (code : List ℕ) (pc : ℤ) (i : Instruction) → fetched code pc ≡ Ok i → Inside code pc
-  fetched-inside code (pos n) i found = ⊎-elim (λ lt. (n, refl, lt)) (λ ge. let none = nth-past code n ge in let clash : _≡_ {A = ℕ} 0 1 = cc in absurd (omega arith)) (order n (length code))
-  fetched-inside code (negsuc n) i found = let clash : _≡_ {A = ℕ} 0 1 = cc in absurd (omega arith)
+  cell-inside : (code : List ℕ) (pc : ℤ) (w : ℕ) → cell code pc ≡ Ok w → Inside code pc
+  cell-inside code (pos n) w at = ⊎-elim (λ lt. (n, refl, lt)) (λ ge. let none = nth-past code n ge in let clash : _≡_ {A = ℕ} 0 1 = cc in absurd (omega arith)) (order n (length code))
+  cell-inside code (negsuc n) w at = let clash : _≡_ {A = ℕ} 0 1 = cc in absurd (omega arith)
 
   always : {X : Type 0} (P : Type 0) → P → (x : Result X Stop) → Each (λ _. P) x
   always P h (Ok a) = record { each = h }
   always P h (Err e) = record { each = tt }
 
   act-inside : (code : List ℕ) (r : Registers) (s : List Cell) → Each (λ _. Inside code (r .pc)) (act m code r s)
-  act-inside code r s = all-by (fetched code (r .pc)) _ (λ i found. always _ (fetched-inside code (r .pc) i found) _)
+  act-inside code r s = all-by (cell code (r .pc)) _ (λ w at. always _ (cell-inside code (r .pc) w at) _)
 
   onward : (P : State Cell → Type 0) (place : ℕ) (x : Result (Option (State Cell)) Stop) (u : State Cell) → Each (Onward P) x → outcome place x ≡ Ok u → P u
   onward P place (Ok (Some t)) u h is = subst P (let same : t ≡ u = cc in same) (h .each)

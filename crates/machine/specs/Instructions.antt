@@ -15,18 +15,17 @@ use Rattle.std.specs.declared.result.Result.the-variants.{Ok, Err}
 use Rattle.reckoning.specs.declared.Operator.{Operator}
 use Rattle.reckoning.specs.declared.Stop.{Stop as ReckoningStop}
 use Rattle.reckoning.specs.Meaning.{Meaning, applied, largest}
-use Rattle.machine.specs.declared.instruction.Instruction.{Instruction}
-use Rattle.machine.specs.declared.instruction.Instruction.the-variants.{Halt, LoadConstant, LoadRelative, Load, Store, Pop, Operate, Negate, Not, Jump, JumpZero, Mark, Call, Enter, Allocate, Return, Check}
+use Rattle.instructions.specs.declared.Instruction.{Instruction}
+use Rattle.instructions.specs.declared.Instruction.the-variants.{Halt, LoadConstant, LoadRelative, Load, Store, Pop, Operate, Negate, Not, Jump, JumpZero, Mark, Call, Enter, Allocate, Return, Check}
 use Rattle.machine.specs.declared.state.Registers.{Registers}
-use Rattle.machine.specs.declared.state.Stop.{Stop}
-use Rattle.machine.specs.declared.state.Stop.the-variants.{Broken, Index, Budget, Depth, Cells, Reckoned}
+use Rattle.instructions.specs.declared.Stop.{Stop}
+use Rattle.instructions.specs.declared.Stop.the-variants.{Broken, Index, Budget, Depth, Cells, Reckoned}
 
 -- The registers and the store.
 abbrev pub State : Type 0 → Type 0
 State Cell = Registers × List Cell
 
 infixl 1 _>>=_
-
 abbrev pub _>>=_ : {X Y : Type 0} → Result X Stop → (X → Result Y Stop) → Result Y Stop
 _>>=_ (Ok x) k = k x
 _>>=_ (Err e) k = Err e
@@ -46,6 +45,26 @@ put s (negsuc a) c = Err Broken
 unfoldable pub read-after : {Cell : Type 0} → List Cell → ℤ → Cell → ℤ → Result Cell Stop
 read-after s at c a = put s at c >>= λ t. cell t a
 
+abbrev pub natural : ℤ → Result ℕ Stop
+natural (pos n) = Ok n
+natural (negsuc n) = Err Broken
+
+-- The two topmost cells: the address of the lower one, and what both hold.
+unfoldable pub tops : {Cell : Type 0} → List Cell → ℤ → Result (ℤ × Cell × Cell) Stop
+tops s sp = do
+  below ← natural (sp -ℤ pos 1)
+  right ← cell s sp
+  left ← cell s (pos below)
+  Ok (pos below, left, right)
+
+-- A cell on top of the stack: its address, and the store.
+unfoldable pub pushed : {Cell : Type 0} → Cell → List Cell → ℤ → Result (ℤ × List Cell) Stop
+pushed c s sp = do
+  a ← natural (sp +ℤ pos 1)
+  t ← put s (pos a) c
+  top ← register (pos a)
+  Ok (top, t)
+
 -- A reckoning's answer, its stop among the machine's.
 abbrev pub reckoned : {X : Type 0} → Result X ReckoningStop → Result X Stop
 reckoned (Ok x) = Ok x
@@ -54,10 +73,6 @@ reckoned (Err e) = Err (Reckoned e)
 abbrev pub cleared : {Cell : Type 0} → Cell → List Cell → ℕ → ℕ → List Cell
 cleared c s a zero = s
 cleared c s a (suc k) = set (cleared c s a k) (a + k) c
-
-abbrev pub natural : ℤ → Result ℕ Stop
-natural (pos n) = Ok n
-natural (negsuc n) = Err Broken
 
 -- c into the k cells above an address
 unfoldable pub clear : {Cell : Type 0} → Cell → List Cell → ℤ → ℕ → Result (List Cell) Stop
@@ -86,13 +101,18 @@ abbrev pub spent : ℕ → Result ℕ Stop
 spent zero = Err Budget
 spent (suc budget) = Ok budget
 
--- A jump to an address not above the jump's own costs one unit. The program counter is past the jump already.
-abbrev pub jump : ℤ → Registers → Result Registers Stop
-jump to r = cond (ltZ to (r .pc)) (spent (r .budget) >>= λ left. Ok (with-budget left (with-pc to r))) (Ok (with-pc to r))
+-- What is left of the budget after a jump. One to an address not above the jump's own costs a unit; the program counter is past the jump already.
+abbrev pub toll : ℤ → ℤ → ℕ → Result ℕ Stop
+toll to pc budget = cond (ltZ to pc) (spent budget) (Ok budget)
 
--- A call is let in while fewer than 24 functions are active, and costs one unit.
-abbrev pub admitted : Registers → Result Registers Stop
-admitted r = cond (leb 24 (r .active)) (Err Depth) (spent (r .budget) >>= λ left. Ok (record { pc = r .pc; sp = r .sp; fp = r .fp; ep = r .ep; active = r .active + 1; budget = left }))
+abbrev pub jump : ℤ → Registers → Result Registers Stop
+jump to r = do
+  left ← toll to (r .pc) (r .budget)
+  Ok (with-budget left (with-pc to r))
+
+-- What is left of the budget after a call, which is let in while fewer than 24 functions are active and costs one unit.
+abbrev pub admitted : ℕ → ℕ → Result ℕ Stop
+admitted active budget = cond (leb 24 active) (Err Depth) (spent budget)
 
 abbrev pub pop : Registers → Result Registers Stop
 pop r = do
@@ -127,9 +147,8 @@ module _ {Cell : Type 0} (m : Meaning Cell) where
   abbrev pub push : ℤ → Registers → List Cell → Result (State Cell) Stop
   push n r s = do
     c ← whole n
-    sp ← register (r .sp +ℤ pos 1)
-    t ← put s sp c
-    Ok (with-sp sp r, t)
+    p ← pushed c s (r .sp)
+    Ok (with-sp (p .0) r, p .1)
 
   unfoldable pub relative : ℤ → Registers → List Cell → Result (State Cell) Stop
   relative j r s = register (r .fp +ℤ j) >>= λ n. push n r s
@@ -144,21 +163,17 @@ module _ {Cell : Type 0} (m : Meaning Cell) where
 
   abbrev pub store-top : Registers → List Cell → Result (State Cell) Stop
   store-top r s = do
-    top ← cell s (r .sp)
-    a ← address top
-    sp ← register (r .sp -ℤ pos 1)
-    c ← cell s sp
-    t ← put s a c
-    Ok (with-sp sp r, t)
+    p ← tops s (r .sp)
+    a ← address (p .2)
+    t ← put s a (p .1)
+    Ok (with-sp (p .0) r, t)
 
   abbrev pub binary : Operator → Registers → List Cell → Result (State Cell) Stop
   binary o r s = do
-    right ← cell s (r .sp)
-    sp ← register (r .sp -ℤ pos 1)
-    left ← cell s sp
-    c ← reckoned (applied m o left right)
-    t ← put s sp c
-    Ok (with-sp sp r, t)
+    p ← tops s (r .sp)
+    c ← reckoned (applied m o (p .1) (p .2))
+    t ← put s (p .0) c
+    Ok (with-sp (p .0) r, t)
 
   abbrev pub negate : Registers → List Cell → Result (State Cell) Stop
   negate r s = do
@@ -194,9 +209,9 @@ module _ {Cell : Type 0} (m : Meaning Cell) where
   link sp fp back r s = do
     top ← read-after s fp back (r .sp)
     to ← address top
-    q ← admitted r
+    left ← admitted (r .active) (r .budget)
     t ← put s fp back
-    Ok (record { pc = to; sp = sp; fp = fp; ep = q .ep; active = q .active; budget = q .budget }, t)
+    Ok (record { pc = to; sp = sp; fp = fp; ep = r .ep; active = r .active + 1; budget = left }, t)
 
   abbrev pub call : ℤ → Registers → List Cell → Result (State Cell) Stop
   call n r s = do

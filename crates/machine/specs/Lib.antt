@@ -1,5 +1,3 @@
-pub mod Words
-pub mod Stops
 pub mod Instructions
 pub mod Seen
 pub mod Steps

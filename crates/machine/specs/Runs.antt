@@ -12,11 +12,11 @@ use Rattle.std.specs.declared.option.Option.the-variants.{Some, None}
 use Rattle.std.specs.declared.result.Result.{Result}
 use Rattle.std.specs.declared.result.Result.the-variants.{Ok, Err}
 use Rattle.reckoning.specs.Meaning.{Meaning}
-use Rattle.machine.specs.declared.instruction.Instruction.{Instruction}
-use Rattle.machine.specs.declared.instruction.Instruction.the-variants.{Halt, LoadConstant, LoadRelative, Load, Store, Pop, Operate, Negate, Not, Jump, JumpZero, Mark, Call, Enter, Allocate, Return, Check}
+use Rattle.instructions.specs.declared.Instruction.{Instruction}
+use Rattle.instructions.specs.declared.Instruction.the-variants.{Halt, LoadConstant, LoadRelative, Load, Store, Pop, Operate, Negate, Not, Jump, JumpZero, Mark, Call, Enter, Allocate, Return, Check}
 use Rattle.machine.specs.declared.state.Ending.{Ending}
 use Rattle.machine.specs.declared.state.Ending.the-variants.{Halted}
-use Rattle.machine.specs.declared.state.Stop.{Stop}
+use Rattle.instructions.specs.declared.Stop.{Stop}
 use Rattle.machine.specs.Instructions.{State}
 use Rattle.machine.specs.Steps.{fetched, step}
 

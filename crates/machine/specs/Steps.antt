@@ -1,24 +1,24 @@
 -- One step of the machine, and a run. Assumes nothing.
 use mathlib.Core.List.{List}
-use Prim.Native.Nat.{ℕ, zero, suc, _+_, _-_, _*_}
+use Prim.Native.Nat.{ℕ, _/_, _%_}
 use lib.IntN.{ℤ, pos, negsuc, _+ℤ_}
 use lib.ListN.{length}
-use Rattle.std.specs.Options.{okOr, valueOr}
+use Rattle.std.specs.Options.{okOr, valueOr, mapped}
 use Rattle.std.specs.Runs.{nth}
 use Rattle.std.specs.declared.option.Option.{Option}
 use Rattle.std.specs.declared.option.Option.the-variants.{Some, None}
 use Rattle.std.specs.declared.result.Result.{Result}
 use Rattle.std.specs.declared.result.Result.the-variants.{Ok, Err}
 use Rattle.reckoning.specs.Meaning.{Meaning}
-use Rattle.machine.specs.declared.instruction.Instruction.{Instruction}
-use Rattle.machine.specs.declared.instruction.Instruction.the-variants.{Halt, LoadConstant, LoadRelative, Load, Store, Pop, Operate, Negate, Not, Jump, JumpZero, Mark, Call, Enter, Allocate, Return, Check}
+use Rattle.instructions.specs.declared.Instruction.{Instruction}
+use Rattle.instructions.specs.declared.Instruction.the-variants.{Halt, LoadConstant, LoadRelative, Load, Store, Pop, Operate, Negate, Not, Jump, JumpZero, Mark, Call, Enter, Allocate, Return, Check}
 use Rattle.machine.specs.declared.state.Ending.{Ending}
 use Rattle.machine.specs.declared.state.Ending.the-variants.{Halted, Stopped}
 use Rattle.machine.specs.declared.state.Registers.{Registers}
-use Rattle.machine.specs.declared.state.Stop.{Stop}
-use Rattle.machine.specs.declared.state.Stop.the-variants.{Broken}
+use Rattle.instructions.specs.declared.Stop.{Stop}
+use Rattle.instructions.specs.declared.Stop.the-variants.{Broken}
 use Rattle.machine.specs.Instructions.{State, _>>=_, register, cell, with-pc, push, relative, load, store-top, pop, binary, negate, invert, jump, branch, mark, call, enter, allocate, leave, check}
-use Rattle.machine.specs.Words.{decoded}
+use Rattle.instructions.specs.Words.{decoded, table, signed}
 
 abbrev pub fetched : List ℕ → ℤ → Result Instruction Stop
 fetched code pc = cell code pc >>= λ w. okOr (decoded w) Broken
@@ -66,12 +66,16 @@ module _ {Cell : Type 0} (m : Meaning Cell) where
   execute Return r s = keeps s (leave m r s)
   execute (Check n) r s = keeps s (check m n r s)
 
+  -- The instruction with this number and operand.
+  abbrev pub perform : ℕ → ℤ → Registers → List Cell → Result (Option (State Cell)) Stop
+  perform n z r s = okOr (mapped (λ i. i z) (nth table n)) Broken >>= λ i. execute i r s
+
   -- The machine fetches an instruction, raises the program counter and executes it.
   abbrev pub act : List ℕ → Registers → List Cell → Result (Option (State Cell)) Stop
   act code r s = do
-    i ← fetched code (r .pc)
+    w ← cell code (r .pc)
     pc ← register (r .pc +ℤ pos 1)
-    execute i (with-pc pc r) s
+    perform (w / 16777216) (signed (w % 16777216)) (with-pc pc r) s
 
   abbrev pub step : List ℕ → List ℕ → State Cell → Result (State Cell) Ending
   step code places t = outcome (beside places (t .0 .pc)) (act code (t .0) (t .1))

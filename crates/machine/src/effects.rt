@@ -1,9 +1,10 @@
-// One function for each instruction: from the registers, the program counter past the instruction, to the registers after it.
-// A stop leaves the store as it was.
+// One function for each instruction. The program counter is past the instruction already.
+// A stop leaves registers and store as they were.
 ghost use mathlib.Core.Path.{_≡_};
-ghost use lib.IntN.{_+ℤ_};
-ghost use Rattle.machine.specs.Instructions.{push, relative, load, store-top, pop, binary, negate, invert, spent, jump, branch, mark, admitted, call, enter, allocate, fewer, saved, leave, check, read-after, link};
-ghost use Rattle.machine.specs.Seen.{seen};
+ghost use Prim.Native.Nat.{_<_};
+ghost use Rattle.std.specs.Vec.{made};
+ghost use Rattle.machine.specs.Instructions.{push, relative, load, store-top, pop, binary, negate, invert, spent, toll, jump, branch, mark, admitted, read-after, link, call, enter, allocate, fewer, saved, leave, check};
+ghost use Rattle.machine.specs.Seen.{after};
 use crate::memory::cell_of;
 use crate::memory::clear;
 use crate::memory::lowered;
@@ -11,135 +12,168 @@ use crate::memory::number_of;
 use crate::memory::raised;
 use crate::memory::read;
 use crate::memory::reckoned;
+use crate::memory::top_two;
 use crate::memory::write;
+use crate::memory::write_above;
 use crate::memory::write_three;
 use crate::state::Registers;
-use crate::state::Stop;
+use instructions::Stop;
 use reckoning::Operator;
 use reckoning::Reckoning;
 use reckoning::operate;
 
-pub fn push<R: Reckoning>(n: i32, r: Registers, store: &mut [R::Cell]) -> Result<Registers, Stop>
-    ensures { λ o. ⌜ (o, now (store .exit)) ≡ seen (now (store .entry)) (push (R·Reckoning .meaning) n r (now (store .entry))) ⌝ }
+pub(crate) fn push<R: Reckoning>(
+    n: i32,
+    r: &mut Registers,
+    store: &mut [R::Cell],
+) -> Result<(), Stop>
+    ensures { λ o. ⌜ (o, (now (r .exit), now (store .exit))) ≡ after (now (r .entry), now (store .entry)) (push (R·Reckoning .meaning) n (now (r .entry)) (now (store .entry))) ⌝ }
 {
     let c = cell_of::<R>(n)?;
-    let sp = raised(r.sp, 1)?;
-    write(store, sp, c)?;
-    Ok(Registers { sp, ..r })
+    r.sp = write_above(store, r.sp, c)?;
+    Ok(())
 }
 
-pub fn relative<R: Reckoning>(j: i32, r: Registers, store: &mut [R::Cell]) -> Result<Registers, Stop>
-    ensures { λ o. ⌜ (o, now (store .exit)) ≡ seen (now (store .entry)) (relative (R·Reckoning .meaning) j r (now (store .entry))) ⌝ }
+pub(crate) fn relative<R: Reckoning>(
+    j: i32,
+    r: &mut Registers,
+    store: &mut [R::Cell],
+) -> Result<(), Stop>
+    ensures { λ o. ⌜ (o, (now (r .exit), now (store .exit))) ≡ after (now (r .entry), now (store .entry)) (relative (R·Reckoning .meaning) j (now (r .entry)) (now (store .entry))) ⌝ }
 {
     let n = raised(r.fp, j)?;
     push::<R>(n, r, store)
 }
 
-pub fn load<R: Reckoning>(r: Registers, store: &mut [R::Cell]) -> Result<Registers, Stop>
-    ensures { λ o. ⌜ (o, now (store .exit)) ≡ seen (now (store .entry)) (load (R·Reckoning .meaning) r (now (store .entry))) ⌝ }
+pub(crate) fn load<R: Reckoning>(r: &mut Registers, store: &mut [R::Cell]) -> Result<(), Stop>
+    ensures { λ o. ⌜ (o, (now (r .exit), now (store .exit))) ≡ after (now (r .entry), now (store .entry)) (load (R·Reckoning .meaning) (now (r .entry)) (now (store .entry))) ⌝ }
 {
     let top = read(store, r.sp)?;
     let at = number_of::<R>(top)?;
     let c = read(store, at)?;
-    write(store, r.sp, c)?;
-    Ok(r)
+    write(store, r.sp, c)
 }
 
-pub fn store_top<R: Reckoning>(r: Registers, store: &mut [R::Cell]) -> Result<Registers, Stop>
-    ensures { λ o. ⌜ (o, now (store .exit)) ≡ seen (now (store .entry)) (store-top (R·Reckoning .meaning) r (now (store .entry))) ⌝ }
+pub(crate) fn store_top<R: Reckoning>(r: &mut Registers, store: &mut [R::Cell]) -> Result<(), Stop>
+    ensures { λ o. ⌜ (o, (now (r .exit), now (store .exit))) ≡ after (now (r .entry), now (store .entry)) (store-top (R·Reckoning .meaning) (now (r .entry)) (now (store .entry))) ⌝ }
 {
-    let top = read(store, r.sp)?;
+    let (sp, below, top) = top_two(store, r.sp)?;
     let at = number_of::<R>(top)?;
-    let sp = lowered(r.sp, 1)?;
-    let c = read(store, sp)?;
-    write(store, at, c)?;
-    Ok(Registers { sp, ..r })
+    write(store, at, below)?;
+    r.sp = sp;
+    Ok(())
 }
 
-pub fn pop(r: Registers) -> Result<Registers, Stop>
-    ensures { λ o. ⌜ o ≡ pop r ⌝ }
+pub(crate) fn pop(r: &mut Registers) -> Result<(), Stop>
+    ensures { λ o. ⌜ (o, now (r .exit)) ≡ after (now (r .entry)) (pop (now (r .entry))) ⌝ }
 {
-    let sp = lowered(r.sp, 1)?;
-    Ok(Registers { sp, ..r })
+    r.sp = lowered(r.sp, 1)?;
+    Ok(())
 }
 
-pub fn binary<R: Reckoning>(operator: Operator, r: Registers, store: &mut [R::Cell]) -> Result<Registers, Stop>
-    ensures { λ o. ⌜ (o, now (store .exit)) ≡ seen (now (store .entry)) (binary (R·Reckoning .meaning) operator r (now (store .entry))) ⌝ }
+pub(crate) fn binary<R: Reckoning>(
+    operator: Operator,
+    r: &mut Registers,
+    store: &mut [R::Cell],
+) -> Result<(), Stop>
+    ensures { λ o. ⌜ (o, (now (r .exit), now (store .exit))) ≡ after (now (r .entry), now (store .entry)) (binary (R·Reckoning .meaning) operator (now (r .entry)) (now (store .entry))) ⌝ }
 {
-    let right = read(store, r.sp)?;
-    let sp = lowered(r.sp, 1)?;
-    let left = read(store, sp)?;
+    let (sp, left, right) = top_two(store, r.sp)?;
     let c = reckoned(operate::<R>(operator, left, right))?;
     write(store, sp, c)?;
-    Ok(Registers { sp, ..r })
+    r.sp = sp;
+    Ok(())
 }
 
-pub fn negate<R: Reckoning>(r: Registers, store: &mut [R::Cell]) -> Result<Registers, Stop>
-    ensures { λ o. ⌜ (o, now (store .exit)) ≡ seen (now (store .entry)) (negate (R·Reckoning .meaning) r (now (store .entry))) ⌝ }
+pub(crate) fn negate<R: Reckoning>(r: &mut Registers, store: &mut [R::Cell]) -> Result<(), Stop>
+    ensures { λ o. ⌜ (o, (now (r .exit), now (store .exit))) ≡ after (now (r .entry), now (store .entry)) (negate (R·Reckoning .meaning) (now (r .entry)) (now (store .entry))) ⌝ }
 {
     let top = read(store, r.sp)?;
     let c = reckoned(R::negate(top))?;
-    write(store, r.sp, c)?;
-    Ok(r)
+    write(store, r.sp, c)
 }
 
-pub fn invert<R: Reckoning>(r: Registers, store: &mut [R::Cell]) -> Result<Registers, Stop>
-    ensures { λ o. ⌜ (o, now (store .exit)) ≡ seen (now (store .entry)) (invert (R·Reckoning .meaning) r (now (store .entry))) ⌝ }
+pub(crate) fn invert<R: Reckoning>(r: &mut Registers, store: &mut [R::Cell]) -> Result<(), Stop>
+    ensures { λ o. ⌜ (o, (now (r .exit), now (store .exit))) ≡ after (now (r .entry), now (store .entry)) (invert (R·Reckoning .meaning) (now (r .entry)) (now (store .entry))) ⌝ }
 {
     let top = read(store, r.sp)?;
-    let yes = reckoned(R::test(top))?;
-    let c = R::whole(if yes { 0 } else { 1 });
-    write(store, r.sp, c)?;
-    Ok(r)
+    let nonzero = reckoned(R::test(top))?;
+    let c = R::whole(if nonzero { 0 } else { 1 });
+    write(store, r.sp, c)
 }
 
-fn spend(budget: u32) -> Result<u32, Stop>
-    ensures { λ o. ⌜ o ≡ spent budget ⌝ }
+fn spend(budget: &mut u32) -> Result<(), Stop>
+    ensures { λ o. ⌜ (o, now (budget .exit)) ≡ after (now (budget .entry)) (spent (now (budget .entry))) ⌝ }
 {
-    if budget == 0 { Err(Stop::Budget) } else { Ok(budget - 1) }
+    if *budget == 0 {
+        return Err(Stop::Budget);
+    }
+    *budget -= 1;
+    Ok(())
 }
 
-pub fn jump(to: i32, r: Registers) -> Result<Registers, Stop>
-    ensures { λ o. ⌜ o ≡ jump to r ⌝ }
+fn pay_jump(to: i32, pc: i32, budget: &mut u32) -> Result<(), Stop>
+    ensures { λ o. ⌜ (o, now (budget .exit)) ≡ after (now (budget .entry)) (toll to pc (now (budget .entry))) ⌝ }
 {
-    let budget = if to < r.pc { spend(r.budget)? } else { r.budget };
-    Ok(Registers { pc: to, budget, ..r })
+    if to < pc { spend(budget) } else { Ok(()) }
 }
 
-pub fn branch<R: Reckoning>(to: i32, r: Registers, store: &[R::Cell]) -> Result<Registers, Stop>
-    ensures { λ o. ⌜ o ≡ branch (R·Reckoning .meaning) to r (now (store .entry)) ⌝ }
+pub(crate) fn jump(to: i32, r: &mut Registers) -> Result<(), Stop>
+    ensures { λ o. ⌜ (o, now (r .exit)) ≡ after (now (r .entry)) (jump to (now (r .entry))) ⌝ }
+{
+    pay_jump(to, r.pc, &mut r.budget)?;
+    r.pc = to;
+    Ok(())
+}
+
+pub(crate) fn branch<R: Reckoning>(
+    to: i32,
+    r: &mut Registers,
+    store: &[R::Cell],
+) -> Result<(), Stop>
+    ensures { λ o. ⌜ (o, now (r .exit)) ≡ after (now (r .entry)) (branch (R·Reckoning .meaning) to (now (r .entry)) (now (store .entry))) ⌝ }
 {
     let top = read(store, r.sp)?;
     let sp = lowered(r.sp, 1)?;
-    let yes = reckoned(R::test(top))?;
-    let popped = Registers { sp, ..r };
-    if yes { Ok(popped) } else { jump(to, popped) }
+    let nonzero = reckoned(R::test(top))?;
+    if !nonzero {
+        pay_jump(to, r.pc, &mut r.budget)?;
+        r.pc = to;
+    }
+    r.sp = sp;
+    Ok(())
 }
 
-pub fn mark<R: Reckoning>(r: Registers, store: &mut [R::Cell]) -> Result<Registers, Stop>
-    ensures { λ o. ⌜ (o, now (store .exit)) ≡ seen (now (store .entry)) (mark (R·Reckoning .meaning) r (now (store .entry))) ⌝ }
+pub(crate) fn mark<R: Reckoning>(r: &mut Registers, store: &mut [R::Cell]) -> Result<(), Stop>
+    ensures { λ o. ⌜ (o, (now (r .exit), now (store .exit))) ≡ after (now (r .entry), now (store .entry)) (mark (R·Reckoning .meaning) (now (r .entry)) (now (store .entry))) ⌝ }
 {
     let ep = cell_of::<R>(r.ep)?;
     let fp = cell_of::<R>(r.fp)?;
     let sp = raised(r.sp, 4)?;
     write_three(store, r.sp, R::whole(0), ep, fp)?;
-    Ok(Registers { sp, ..r })
+    r.sp = sp;
+    Ok(())
 }
 
-fn admit(r: Registers) -> Result<Registers, Stop>
-    ensures { λ o. ⌜ o ≡ admitted r ⌝ }
+fn admit(active: u32, budget: &mut u32) -> Result<(), Stop>
+    ensures is { λ o. ⌜ (o, now (budget .exit)) ≡ after (now (budget .entry)) (admitted active (now (budget .entry))) ⌝ }
+    ensures few { λ o. ⌜ made o (λ _. active < 24) ⌝ }
 {
-    if r.active >= 24 {
-        return Err(Stop::Depth);
+    if active >= 24 {
+        Err(Stop::Depth)
+    } else {
+        spend(budget)
     }
-    let budget = spend(r.budget)?;
-    Ok(Registers { active: r.active + 1, budget, ..r })
 }
 
 fn retire(active: u32) -> Result<u32, Stop>
     ensures { λ o. ⌜ o ≡ fewer active ⌝ }
 {
-    if active == 0 { Err(Stop::Broken) } else { Ok(active - 1) }
+    if active == 0 {
+        Err(Stop::Broken)
+    } else {
+        Ok(active - 1)
+    }
 }
 
 // The number that was saved so many cells below the frame pointer.
@@ -157,22 +191,45 @@ fn read_after<C: Copy>(store: &[C], at: i32, value: C, address: i32) -> Result<C
 {
     match read(store, at) {
         Err(stop) => Err(stop),
-        Ok(_) => if address == at { Ok(value) } else { read(store, address) },
+        Ok(_) => if address == at {
+            Ok(value)
+        } else {
+            read(store, address)
+        },
     }
 }
 
-fn link<R: Reckoning>(sp: i32, fp: i32, back: R::Cell, r: Registers, store: &mut [R::Cell]) -> Result<Registers, Stop>
-    ensures { λ o. ⌜ (o, now (store .exit)) ≡ seen (now (store .entry)) (link (R·Reckoning .meaning) sp fp back r (now (store .entry))) ⌝ }
+fn link<R: Reckoning>(
+    sp: i32,
+    fp: i32,
+    back: R::Cell,
+    r: &mut Registers,
+    store: &mut [R::Cell],
+) -> Result<(), Stop>
+    ensures { λ o. ⌜ (o, (now (r .exit), now (store .exit))) ≡ after (now (r .entry), now (store .entry)) (link (R·Reckoning .meaning) sp fp back (now (r .entry)) (now (store .entry))) ⌝ }
 {
     let top = read_after(store, fp, back, r.sp)?;
     let pc = number_of::<R>(top)?;
-    let r = admit(r)?;
+    let mut budget = r.budget;
+    admit(r.active, &mut budget)?;
     write(store, fp, back)?;
-    Ok(Registers { pc, sp, fp, ..r })
+    *r = Registers {
+        pc,
+        sp,
+        fp,
+        ep: r.ep,
+        active: r.active + 1,
+        budget,
+    };
+    Ok(())
 }
 
-pub fn call<R: Reckoning>(n: i32, r: Registers, store: &mut [R::Cell]) -> Result<Registers, Stop>
-    ensures { λ o. ⌜ (o, now (store .exit)) ≡ seen (now (store .entry)) (call (R·Reckoning .meaning) n r (now (store .entry))) ⌝ }
+pub(crate) fn call<R: Reckoning>(
+    n: i32,
+    r: &mut Registers,
+    store: &mut [R::Cell],
+) -> Result<(), Stop>
+    ensures { λ o. ⌜ (o, (now (r .exit), now (store .exit))) ≡ after (now (r .entry), now (store .entry)) (call (R·Reckoning .meaning) n (now (r .entry)) (now (store .entry))) ⌝ }
 {
     let sp = lowered(r.sp, 1)?;
     let fp = lowered(sp, n)?;
@@ -180,8 +237,8 @@ pub fn call<R: Reckoning>(n: i32, r: Registers, store: &mut [R::Cell]) -> Result
     link::<R>(sp, fp, back, r, store)
 }
 
-pub fn enter<C>(q: i32, r: Registers, store: &[C]) -> Result<Registers, Stop>
-    ensures { λ o. ⌜ o ≡ enter q r (now (store .entry)) ⌝ }
+pub(crate) fn enter<C>(q: i32, r: &mut Registers, store: &[C]) -> Result<(), Stop>
+    ensures { λ o. ⌜ (o, now (r .exit)) ≡ after (now (r .entry)) (enter q (now (r .entry)) (now (store .entry))) ⌝ }
 {
     if q < 0 {
         return Err(Stop::Broken);
@@ -190,37 +247,55 @@ pub fn enter<C>(q: i32, r: Registers, store: &[C]) -> Result<Registers, Stop>
     if ep >= 0 && (ep as usize) >= store.len() {
         return Err(Stop::Cells);
     }
-    Ok(Registers { ep, ..r })
+    r.ep = ep;
+    Ok(())
 }
 
-pub fn allocate<R: Reckoning>(k: i32, r: Registers, store: &mut [R::Cell]) -> Result<Registers, Stop>
-    ensures { λ o. ⌜ (o, now (store .exit)) ≡ seen (now (store .entry)) (allocate (R·Reckoning .meaning) k r (now (store .entry))) ⌝ }
+pub(crate) fn allocate<R: Reckoning>(
+    k: i32,
+    r: &mut Registers,
+    store: &mut [R::Cell],
+) -> Result<(), Stop>
+    ensures { λ o. ⌜ (o, (now (r .exit), now (store .exit))) ≡ after (now (r .entry), now (store .entry)) (allocate (R·Reckoning .meaning) k (now (r .entry)) (now (store .entry))) ⌝ }
 {
     if k < 0 {
         return Err(Stop::Broken);
     }
     let sp = raised(r.sp, k)?;
     clear(store, r.sp, k as u32, R::whole(0))?;
-    Ok(Registers { sp, ..r })
+    r.sp = sp;
+    Ok(())
 }
 
-pub fn leave<R: Reckoning>(r: Registers, store: &[R::Cell]) -> Result<Registers, Stop>
-    ensures { λ o. ⌜ o ≡ leave (R·Reckoning .meaning) r (now (store .entry)) ⌝ }
+pub(crate) fn leave<R: Reckoning>(r: &mut Registers, store: &[R::Cell]) -> Result<(), Stop>
+    ensures { λ o. ⌜ (o, now (r .exit)) ≡ after (now (r .entry)) (leave (R·Reckoning .meaning) (now (r .entry)) (now (store .entry))) ⌝ }
 {
     let active = retire(r.active)?;
     let pc = saved::<R>(store, r.fp, 0)?;
     let fp = saved::<R>(store, r.fp, 1)?;
     let ep = saved::<R>(store, r.fp, 2)?;
     let sp = lowered(r.fp, 3)?;
-    Ok(Registers { pc, sp, fp, ep, active, ..r })
+    *r = Registers {
+        pc,
+        sp,
+        fp,
+        ep,
+        active,
+        budget: r.budget,
+    };
+    Ok(())
 }
 
-pub fn check<R: Reckoning>(n: i32, r: Registers, store: &[R::Cell]) -> Result<Registers, Stop>
-    ensures { λ o. ⌜ o ≡ check (R·Reckoning .meaning) n r (now (store .entry)) ⌝ }
+pub(crate) fn check<R: Reckoning>(n: i32, r: &Registers, store: &[R::Cell]) -> Result<(), Stop>
+    ensures { λ o. ⌜ (o, now (r .entry)) ≡ after (now (r .entry)) (check (R·Reckoning .meaning) n (now (r .entry)) (now (store .entry))) ⌝ }
 {
     let top = read(store, r.sp)?;
     match R::place(top) {
-        Some(i) => if (i as i32) < n { Ok(r) } else { Err(Stop::Index) },
+        Some(i) => if (i as i32) < n {
+            Ok(())
+        } else {
+            Err(Stop::Index)
+        },
         None => Err(Stop::Index),
     }
 }

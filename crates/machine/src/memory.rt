@@ -1,35 +1,33 @@
 // The store, and the numbers that it and the registers hold.
 ghost use mathlib.Core.Path.{_≡_};
+ghost use Prim.Native.Nat.{_<_};
 ghost use lib.IntN.{pos, _+ℤ_, _-ℤ_};
-ghost use Rattle.machine.specs.Instructions.{register, cell, put, natural, three, clear, whole, address, reckoned};
-ghost use Rattle.machine.specs.Seen.{written};
-use crate::state::Stop;
+ghost use Rattle.std.specs.Vec.{made};
+ghost use Rattle.machine.specs.Instructions.{register, cell, put, natural, three, clear, whole, address, reckoned, tops, pushed};
+ghost use Rattle.machine.specs.Seen.{after, given};
+use instructions::Stop;
 use reckoning::Reckoning;
 use reckoning::Stop as ReckoningStop;
 
-fn in_register(n: i64) -> Result<i32, Stop>
-    ensures { λ r. ⌜ r ≡ register n ⌝ }
+pub(crate) fn raised(n: i32, by: i32) -> Result<i32, Stop>
+    ensures { λ r. ⌜ r ≡ register (n +ℤ by) ⌝ }
 {
-    if n >= i32::MIN as i64 && n <= i32::MAX as i64 {
-        Ok(n as i32)
-    } else {
-        Err(Stop::Broken)
+    match n.checked_add(by) {
+        Some(m) => Ok(m),
+        None => Err(Stop::Broken),
     }
 }
 
-pub fn raised(n: i32, by: i32) -> Result<i32, Stop>
-    ensures { λ r. ⌜ r ≡ register (n +ℤ by) ⌝ }
-{
-    in_register(n as i64 + by as i64)
-}
-
-pub fn lowered(n: i32, by: i32) -> Result<i32, Stop>
+pub(crate) fn lowered(n: i32, by: i32) -> Result<i32, Stop>
     ensures { λ r. ⌜ r ≡ register (n -ℤ by) ⌝ }
 {
-    in_register(n as i64 - by as i64)
+    match n.checked_sub(by) {
+        Some(m) => Ok(m),
+        None => Err(Stop::Broken),
+    }
 }
 
-pub fn read<C: Copy>(store: &[C], at: i32) -> Result<C, Stop>
+pub(crate) fn read<C: Copy>(store: &[C], at: i32) -> Result<C, Stop>
     ensures { λ r. ⌜ r ≡ cell (now (store .entry)) at ⌝ }
 {
     if at >= 0 && (at as usize) < store.len() {
@@ -39,8 +37,8 @@ pub fn read<C: Copy>(store: &[C], at: i32) -> Result<C, Stop>
     }
 }
 
-pub fn write<C: Copy>(store: &mut [C], at: i32, value: C) -> Result<(), Stop>
-    ensures { λ r. ⌜ (r, now (store .exit)) ≡ written (now (store .entry)) (put (now (store .entry)) at value) ⌝ }
+pub(crate) fn write<C: Copy>(store: &mut [C], at: i32, value: C) -> Result<(), Stop>
+    ensures { λ r. ⌜ (r, now (store .exit)) ≡ after (now (store .entry)) (put (now (store .entry)) at value) ⌝ }
 {
     if at >= 0 && (at as usize) < store.len() {
         store[at as usize] = value;
@@ -50,7 +48,7 @@ pub fn write<C: Copy>(store: &mut [C], at: i32, value: C) -> Result<(), Stop>
     }
 }
 
-pub fn cell_of<R: Reckoning>(n: i32) -> Result<R::Cell, Stop>
+pub(crate) fn cell_of<R: Reckoning>(n: i32) -> Result<R::Cell, Stop>
     ensures { λ r. ⌜ r ≡ whole (R·Reckoning .meaning) n ⌝ }
 {
     if n >= 0 && n <= 16_383 {
@@ -60,7 +58,7 @@ pub fn cell_of<R: Reckoning>(n: i32) -> Result<R::Cell, Stop>
     }
 }
 
-pub fn number_of<R: Reckoning>(c: R::Cell) -> Result<i32, Stop>
+pub(crate) fn number_of<R: Reckoning>(c: R::Cell) -> Result<i32, Stop>
     ensures { λ r. ⌜ r ≡ address (R·Reckoning .meaning) c ⌝ }
 {
     match R::place(c) {
@@ -70,7 +68,7 @@ pub fn number_of<R: Reckoning>(c: R::Cell) -> Result<i32, Stop>
 }
 
 // A reckoning's answer, its stop among the machine's.
-pub fn reckoned<X>(answer: Result<X, ReckoningStop>) -> Result<X, Stop>
+pub(crate) fn reckoned<X>(answer: Result<X, ReckoningStop>) -> Result<X, Stop>
     ensures { λ r. ⌜ r ≡ reckoned answer ⌝ }
 {
     match answer {
@@ -90,9 +88,21 @@ fn above(address: i32) -> Result<usize, Stop>
     }
 }
 
+// The index of the cell below an address.
+fn under(address: i32) -> Result<usize, Stop>
+    ensures is { λ r. ⌜ r ≡ natural (address -ℤ pos 1) ⌝ }
+    ensures small { λ r. ⌜ made r (λ n. n < 2147483647) ⌝ }
+{
+    if address >= 1 {
+        Ok((address - 1) as usize)
+    } else {
+        Err(Stop::Broken)
+    }
+}
+
 // Writes c into each of the `count` cells above an address, or into none.
-pub fn clear<C: Copy>(store: &mut [C], address: i32, count: u32, c: C) -> Result<(), Stop>
-    ensures { λ r. ⌜ (r, now (store .exit)) ≡ written (now (store .entry)) (clear c (now (store .entry)) address count) ⌝ }
+pub(crate) fn clear<C: Copy>(store: &mut [C], address: i32, count: u32, c: C) -> Result<(), Stop>
+    ensures { λ r. ⌜ (r, now (store .exit)) ≡ after (now (store .entry)) (clear c (now (store .entry)) address count) ⌝ }
 {
     if count == 0 {
         return Ok(());
@@ -108,8 +118,14 @@ pub fn clear<C: Copy>(store: &mut [C], address: i32, count: u32, c: C) -> Result
 }
 
 // Writes the three cells above an address, or none.
-pub fn write_three<C: Copy>(store: &mut [C], address: i32, x: C, y: C, z: C) -> Result<(), Stop>
-    ensures { λ r. ⌜ (r, now (store .exit)) ≡ written (now (store .entry)) (three (now (store .entry)) address x y z) ⌝ }
+pub(crate) fn write_three<C: Copy>(
+    store: &mut [C],
+    address: i32,
+    x: C,
+    y: C,
+    z: C,
+) -> Result<(), Stop>
+    ensures { λ r. ⌜ (r, now (store .exit)) ≡ after (now (store .entry)) (three (now (store .entry)) address x y z) ⌝ }
 {
     let first = above(address)?;
     if store.len() < 3 || first > store.len() - 3 {
@@ -119,4 +135,30 @@ pub fn write_three<C: Copy>(store: &mut [C], address: i32, x: C, y: C, z: C) -> 
     store[first + 1] = y;
     store[first + 2] = z;
     Ok(())
+}
+
+// The address of the cell below the topmost one, and what the two hold.
+pub(crate) fn top_two<C: Copy>(store: &[C], sp: i32) -> Result<(i32, C, C), Stop>
+    ensures { λ r. ⌜ r ≡ tops (now (store .entry)) sp ⌝ }
+{
+    let below = under(sp)?;
+    if below + 1 >= store.len() {
+        return Err(Stop::Broken);
+    }
+    Ok((below as i32, store[below], store[below + 1]))
+}
+
+// Writes a cell on top of the stack, and answers its address.
+pub(crate) fn write_above<C: Copy>(store: &mut [C], sp: i32, c: C) -> Result<i32, Stop>
+    ensures { λ r. ⌜ (r, now (store .exit)) ≡ given (now (store .entry)) (pushed c (now (store .entry)) sp) ⌝ }
+{
+    let top = above(sp)?;
+    if top >= store.len() {
+        return Err(Stop::Broken);
+    }
+    if top > 2_147_483_647 {
+        return Err(Stop::Broken);
+    }
+    store[top] = c;
+    Ok(top as i32)
 }

@@ -1,7 +1,4 @@
-ghost use mathlib.Core.Path.{_≡_};
-ghost use Prim.Native.Nat.{_≤_};
-ghost use Rattle.machine.specs.Stops.{stop-number, stop-layer};
-use reckoning::Stop as ReckoningStop;
+use instructions::Stop;
 
 // The machine's registers: program counter, stack pointer, frame pointer, extreme pointer (the highest address that the active
 // function may need), how many functions are active, and the units of work that are left.
@@ -15,51 +12,6 @@ pub struct Registers {
     pub budget: u32,
 }
 
-// Why a run stops: broken code, an index outside its array, no unit left, too many functions active, want of cells,
-// or what the reckoning says.
-#[derive(Clone, Copy)]
-pub enum Stop {
-    Broken,
-    Index,
-    Budget,
-    Depth,
-    Cells,
-    Reckoned(ReckoningStop),
-}
-
-// Who stops a run.
-#[derive(Clone, Copy)]
-pub enum Layer {
-    Machine,
-    Reckoning,
-}
-
-impl Stop {
-    // 40 to 44 are the machine's, 45 to 59 the reckoning's.
-    pub fn number(self) -> u8
-        ensures is { λ r. ⌜ r ≡ stop-number self ⌝ }
-        ensures range { λ r. ⌜ (40 ≤ r) × (r ≤ 59) ⌝ }
-    {
-        match self {
-            Stop::Broken => 40,
-            Stop::Index => 41,
-            Stop::Budget => 42,
-            Stop::Depth => 43,
-            Stop::Cells => 44,
-            Stop::Reckoned(stop) => stop.number(),
-        }
-    }
-
-    pub fn layer(self) -> Layer
-        ensures { λ r. ⌜ r ≡ stop-layer (stop-number self) ⌝ }
-    {
-        match self {
-            Stop::Reckoned(_) => Layer::Reckoning,
-            _ => Layer::Machine,
-        }
-    }
-}
-
 // How a run ends: the machine halts, or stops at a place of the text.
 #[derive(Clone, Copy)]
 pub enum Ending {
@@ -67,8 +19,16 @@ pub enum Ending {
     Stopped(Stop, u32),
 }
 
+// A step leads on to a next state, or ends the run.
 #[derive(Clone, Copy)]
 pub enum Step {
-    Next(Registers),
+    Next,
     Ended(Ending),
+}
+
+// Whether the machine goes on after an instruction.
+#[derive(Clone, Copy)]
+pub enum Flow {
+    Onward,
+    Halts,
 }

@@ -14,6 +14,6 @@ pub returns-else-at-ge0 : need.returns-else-at-ge0
 returns-else-at-ge0 g c =
     let f : SFits w32 (c .args .at) = c .fits .at in
     elim (c .else-at-ge0 .came) [
-      else-at-ge0·by·then-at-ge0·else-at-store w ↦ cell-past (c .args .store .now) (c .args .at) (simp toZ-ofZ at (w .if-at-ge0 .taken)) (simp toZ-ofZ at (w .if-at-store .left))
-    | else-at-ge0·by·else-at-ge0 w ↦ cell-before (c .args .store .now) (c .args .at) (simp toZ-ofZ at (w .if-at-ge0 .left))
+      | else-at-ge0·by·then-at-ge0·else-at-store w ↦ cell-past (c .args .store .now) (c .args .at) (simp toZ-ofZ at (w .if-at-ge0 .taken)) (simp toZ-ofZ at (w .if-at-store .left))
+      | else-at-ge0·by·else-at-ge0 w ↦ cell-before (c .args .store .now) (c .args .at) (simp toZ-ofZ at (w .if-at-ge0 .left))
     ]
