@@ -1,6 +1,6 @@
 -- The tokens of a well-formed tree are accepted with that tree. Assumes nothing.
 use Rattle.std.proofs.Common.{◌≡◌, ℕ, ◌≤◌, Bool, true, false, List, [], ◌∷◌, ◌++◌, Some, None, sym, refl, ap, ◌∙◌, subst, append-nil, arith}
-use Rattle.std.specs.List.{AllByRecursion as All}
+use Rattle.std.specs.List.{AllByRecursion}
 use Rattle.std.proofs.lemmas.Bool.{le-leb, lt-leb, cond-true, cond-false, both_ways}
 use Rattle.language.specs.Tree.{Name, Sign, minus, bang, Expr, number, variable, call, unary, binary, assign, brackets, Indices, plain, index, Args, no_args, argument, Stmt, expr, block, return, if_then, if_else, while, for, Stmts, end, then, Variable, Function, Sheet}
 use Rattle.grammar.specs.Lexemes.{Mark, round, end_round, square, end_square, end_brace, semicolon, int_word, else_word, Lexeme, numeral, identifier, operator, exclamation, equals, mark, Token, is}
@@ -325,11 +325,11 @@ globals vs = record { name = λ x p. refl; plainly = λ q x p. refl; opening = �
 own : (h : Heading) (ps ls : List Variable) → Declares (local h ps ls) (λ v. locals h ps (v ∷ ls))
 own h ps ls = record { name = λ x p. refl; plainly = λ q x p. refl; opening = λ q x p. refl; size = λ q x n p. refl; closing_size = λ q x n p. refl; ending_array = λ q x n p. refl }
 
-complete_variables : (vs us : List Variable) (w : List Word) (u : Sheet) → All OkVariable vs → Ends (sheet (onto vs us) []) w u → Ends (sheet us []) (each spell_variable vs w) u
+complete_variables : (vs us : List Variable) (w : List Word) (u : Sheet) → AllByRecursion OkVariable vs → Ends (sheet (onto vs us) []) w u → Ends (sheet us []) (each spell_variable vs w) u
 complete_variables [] us w u ok rest = rest
 complete_variables (v ∷ vs) us w u ok rest = step_loose (λ p. refl) (complete_variable _ _ (globals us) v _ u ok.0 (complete_variables vs (v ∷ us) w u ok.1 rest))
 
-complete_locals : (h : Heading) (ps vs ls : List Variable) (w : List Word) (u : Sheet) → All OkVariable vs → Ends (locals h ps (onto vs ls)) w u → Ends (locals h ps ls) (each spell_variable vs w) u
+complete_locals : (h : Heading) (ps vs ls : List Variable) (w : List Word) (u : Sheet) → AllByRecursion OkVariable vs → Ends (locals h ps (onto vs ls)) w u → Ends (locals h ps ls) (each spell_variable vs w) u
 complete_locals h ps [] ls w u ok rest = rest
 complete_locals h ps (v ∷ vs) ls w u ok rest = step_loose (λ p. refl) (complete_variable _ _ (own h ps ls) v _ u ok.0 (complete_locals h ps vs (v ∷ ls) w u ok.1 rest))
 
@@ -337,11 +337,11 @@ complete_parameter : (h : Heading) (ps : List Variable) (v : Variable) (w : List
 complete_parameter h ps v w u ok rest =
     subst (λ ns. Ends (parameter_end h (record { place = v.place; name = v.name; sizes = ns } ∷ ps)) w u → Ends (parameter h ps) (placed (identifier v.name) v.place ∷ spell_sizes ns w) u) (sym ok) (λ r. step_fixed refl r) rest
 
-complete_others : (h : Heading) (vs ps : List Variable) (w : List Word) (u : Sheet) → All OkParameter vs → Ends (signature h (onto vs ps)) w u → Ends (parameter_end h ps) (spell_others vs (free end_round ∷ w)) u
+complete_others : (h : Heading) (vs ps : List Variable) (w : List Word) (u : Sheet) → AllByRecursion OkParameter vs → Ends (signature h (onto vs ps)) w u → Ends (parameter_end h ps) (spell_others vs (free end_round ∷ w)) u
 complete_others h [] ps w u ok rest = step_loose (λ p. refl) rest
 complete_others h (v ∷ vs) ps w u ok rest = step_loose (λ p. refl) (step_loose (λ p. refl) (complete_parameter h ps v _ u ok.0 (complete_others h vs (v ∷ ps) w u ok.1 rest)))
 
-complete_parameters : (h : Heading) (vs : List Variable) (w : List Word) (u : Sheet) → All OkParameter vs → Ends (signature h (onto vs [])) w u → Ends (parameters h) (spell_parameters vs (free end_round ∷ w)) u
+complete_parameters : (h : Heading) (vs : List Variable) (w : List Word) (u : Sheet) → AllByRecursion OkParameter vs → Ends (signature h (onto vs [])) w u → Ends (parameters h) (spell_parameters vs (free end_round ∷ w)) u
 complete_parameters h [] w u ok rest = step_loose (λ p. refl) rest
 complete_parameters h (v ∷ vs) w u ok rest = step_loose (λ p. refl) (complete_parameter h [] v _ u ok.0 (complete_others h vs (v ∷ []) w u ok.1 rest))
 
@@ -371,7 +371,7 @@ complete_function f us gs w u ok rest =
     same : made h (onto f.parameters []) (onto f.locals []) (statements (pushed [] f.body) end) ≡ f
     same = λ i. record { place = f.place; name = f.name; parameters = onto_twice f.parameters i; locals = onto_twice f.locals i; body = pushed_statements [] f.body i }
 
-complete_functions : (fs : List Function) (us : List Variable) (gs : List Function) (w : List Word) (u : Sheet) → All OkFunction fs → Ends (sheet us (onto fs gs)) w u → Ends (sheet us gs) (each spell_function fs w) u
+complete_functions : (fs : List Function) (us : List Variable) (gs : List Function) (w : List Word) (u : Sheet) → AllByRecursion OkFunction fs → Ends (sheet us (onto fs gs)) w u → Ends (sheet us gs) (each spell_function fs w) u
 complete_functions [] us gs w u ok rest = rest
 complete_functions (f ∷ fs) us gs w u ok rest = complete_function f us gs _ u ok.0 (complete_functions fs us (f ∷ gs) w u ok.1 rest)
 

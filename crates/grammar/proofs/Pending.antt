@@ -1,6 +1,6 @@
 -- What a state has read, and which states parsing comes to. Assumes nothing.
 use Rattle.std.proofs.Common.{◌≡◌, ℕ, suc, ◌≤◌, List, [], ◌∷◌, None, arith}
-use Rattle.std.specs.List.{AllByRecursion as All}
+use Rattle.std.specs.List.{AllByRecursion}
 use Rattle.reckoning.specs.declared.Operator.{Operator}
 use Rattle.reckoning.specs.declared.Operator.TheVariants.{Add, Subtract, Multiply, Divide, Remainder, Compare}
 use Rattle.reckoning.specs.declared.Comparison.TheVariants.{Equal, NotEqual, Less, AtMost, Greater, AtLeast}
@@ -114,7 +114,7 @@ Good (left o p l k) = Good k × Ok l × (level o ≤ level_of l) × (floor k ≤
 Good (target p l k) = Good k × Ok l × (1 ≤ level_of l) × (floor k ≤ 0)
 Good (bracket k) = Good k
 Good (element p x q k) = Good k
-Good (called p x q ds k) = Good k × All Ok ds
+Good (called p x q ds k) = Good k × AllByRecursion Ok ds
 
 -- an operand that has just been read binds the tightest
 abbrev pub GoodOperand : Operand → Type 0
@@ -122,8 +122,8 @@ GoodOperand (need k) = Good k
 GoodOperand (have e k) = Good k × Ok e × (6 ≤ level_of e)
 
 abbrev pub GoodPending : Pending → Type 0
-GoodPending (body ss) = All OkStatement ss
-GoodPending (in_block ss k) = GoodPending k × All OkStatement ss
+GoodPending (body ss) = AllByRecursion OkStatement ss
+GoodPending (in_block ss k) = GoodPending k × AllByRecursion OkStatement ss
 GoodPending (in_then p c k) = GoodPending k × Ok c
 GoodPending (in_else p c s k) = GoodPending k × Ok c × OkStatement s × Shut s
 GoodPending (in_while p c k) = GoodPending k × Ok c
@@ -163,8 +163,8 @@ GoodDeclaring fs (sized p x n) = fs ≡ []
 GoodDeclaring fs (closed p x n) = fs ≡ []
 
 pub record GoodSheet (vs : List Variable) (fs : List Function) : Type 0 where
-  pub variables : All OkVariable vs
-  pub functions : All OkFunction fs
+  pub variables : AllByRecursion OkVariable vs
+  pub functions : AllByRecursion OkFunction fs
 
 abbrev pub GoodHeading : Heading → Type 0
 GoodHeading h = GoodSheet h.variables h.functions
@@ -177,13 +177,13 @@ abbrev pub GoodState : State → Type 0
 GoodState (sheet vs fs) = GoodSheet vs fs
 GoodState (declaring vs fs d) = GoodSheet vs fs × GoodDeclaring fs d
 GoodState (parameters h) = GoodHeading h
-GoodState (another h ps) = GoodHeading h × All OkParameter ps
-GoodState (parameter h ps) = GoodHeading h × All OkParameter ps
-GoodState (parameter_end h ps) = GoodHeading h × All OkParameter ps × SomeOf ps
-GoodState (signature h ps) = GoodHeading h × All OkParameter ps
-GoodState (locals h ps ls) = GoodHeading h × All OkParameter ps × All OkVariable ls
-GoodState (local h ps ls d) = GoodHeading h × All OkParameter ps × All OkVariable ls
-GoodState (inside h ps ls i) = GoodHeading h × All OkParameter ps × All OkVariable ls × GoodInside i
+GoodState (another h ps) = GoodHeading h × AllByRecursion OkParameter ps
+GoodState (parameter h ps) = GoodHeading h × AllByRecursion OkParameter ps
+GoodState (parameter_end h ps) = GoodHeading h × AllByRecursion OkParameter ps × SomeOf ps
+GoodState (signature h ps) = GoodHeading h × AllByRecursion OkParameter ps
+GoodState (locals h ps ls) = GoodHeading h × AllByRecursion OkParameter ps × AllByRecursion OkVariable ls
+GoodState (local h ps ls d) = GoodHeading h × AllByRecursion OkParameter ps × AllByRecursion OkVariable ls
+GoodState (inside h ps ls i) = GoodHeading h × AllByRecursion OkParameter ps × AllByRecursion OkVariable ls × GoodInside i
 
 pub level_bounds : (o : Operator) → (1 ≤ level o) × (level o ≤ 4)
 level_bounds Add = (omega arith, omega arith)

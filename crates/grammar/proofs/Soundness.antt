@@ -1,6 +1,6 @@
 -- What parsing accepts is spelled by its tree. Assumes nothing.
 use Rattle.std.proofs.Common.{◌≡◌, ℕ, ◌<◌, ◌≤◌, true, eqb, leb, List, [], ◌∷◌, get_or, Some, None, Option, sym, refl, ap, ◌∙◌, subst, arith}
-use Rattle.std.specs.List.{AllByRecursion as All}
+use Rattle.std.specs.List.{AllByRecursion}
 use Rattle.std.proofs.lemmas.Bool.{eqb-true, leb-true, leb-false, cond_both}
 use Rattle.reckoning.specs.declared.Operator.{Operator}
 use Rattle.reckoning.specs.declared.Operator.TheVariants.{Add, Subtract, Multiply, Divide, Remainder, Compare}
@@ -133,7 +133,7 @@ settle_fair n (bracket k) e low good ok fits high = record { good = good; ok = o
 settle_fair n (element p x q k) e low good ok fits high = record { good = good; ok = ok; high = high; stops = tt; same = λ w. refl }
 settle_fair n (called p x q ds k) e low good ok fits high = record { good = good; ok = ok; high = high; stops = tt; same = λ w. refl }
 
-pub arguments_ok : (ds : List Expr) (e : Expr) (es : Args) → All Ok ds → Ok e → OkArgs es → OkArgs (arguments ds e es)
+pub arguments_ok : (ds : List Expr) (e : Expr) (es : Args) → AllByRecursion Ok ds → Ok e → OkArgs es → OkArgs (arguments ds e es)
 arguments_ok [] e es before ok more = (ok, more)
 arguments_ok (d ∷ ds) e es before ok more = arguments_ok ds d (argument e es) before.1 before.0 (ok, more)
 
@@ -231,7 +231,7 @@ resumes_fair at d h k l (out m e) good part fair =
     subst (λ x. FairTurn (λ w. pre_pending k (pre_part h (d w))) at x (completes h k m e)) (sym fair.0)
     (completes_fair at _ h k m e good part fair.1 (λ w. ap (λ v. pre_pending k (pre_part h v)) (fair.2 w)))
 
-pub statements_ok : (before : List Stmt) (ss : Stmts) → All OkStatement before → OkStatements ss → OkStatements (statements before ss)
+pub statements_ok : (before : List Stmt) (ss : Stmts) → AllByRecursion OkStatement before → OkStatements ss → OkStatements (statements before ss)
 statements_ok [] ss before ok = ok
 statements_ok (s ∷ more) ss before ok = statements_ok more (then s ss) before.1 (before.0, ok)
 
@@ -349,7 +349,7 @@ declaring_fair vs fs (opened p x) good first l at = declares_first at vs fs (ope
 declaring_fair vs fs (sized p x n) good first l at = declares_first at vs fs (sized p x n) l _ first good (declare_fair (sized p x n) l at)
 declaring_fair vs fs (closed p x n) good first l at = declares_first at vs fs (closed p x n) l _ first good (declare_fair (closed p x n) l at)
 
-pub all_onto : {X : Type 0} (P : X → Type 0) (xs ys : List X) → All P xs → All P ys → All P (onto xs ys)
+pub all_onto : {X : Type 0} (P : X → Type 0) (xs ys : List X) → AllByRecursion P xs → AllByRecursion P ys → AllByRecursion P (onto xs ys)
 all_onto P [] ys before more = more
 all_onto P (x ∷ xs) ys before more = all_onto P xs (x ∷ ys) before.1 (before.0, more)
 

@@ -1,6 +1,6 @@
 -- The words of a tree, and which trees the grammar has. Assumes nothing.
 use Rattle.std.specs.Prelude.{◌≡◌, ℕ, ◌<◌, ◌≤◌, List, [], ◌∷◌, ◌++◌, Some, None, Option}
-use Rattle.std.specs.List.{AllByRecursion as All}
+use Rattle.std.specs.List.{AllByRecursion}
 use Rattle.reckoning.specs.declared.Operator.{Operator}
 use Rattle.reckoning.specs.declared.Operator.TheVariants.{Add, Subtract, Multiply, Divide, Remainder, Compare}
 use Rattle.reckoning.specs.declared.Comparison.TheVariants.{Equal, NotEqual, Less, AtMost, Greater, AtLeast}
@@ -179,13 +179,13 @@ abbrev pub OkParameter : Variable → Type 0
 OkParameter v = v.sizes ≡ []
 
 pub record OkFunction (f : Function) : Type 0 where
-  pub parameters : All OkParameter f.parameters
-  pub locals : All OkVariable f.locals
+  pub parameters : AllByRecursion OkParameter f.parameters
+  pub locals : AllByRecursion OkVariable f.locals
   pub body : OkStatements f.body
 
 pub record OkSheet (s : Sheet) : Type 0 where
-  pub variables : All OkVariable s.variables
-  pub functions : All OkFunction s.functions
+  pub variables : AllByRecursion OkVariable s.variables
+  pub functions : AllByRecursion OkFunction s.functions
 
 -- The tokens are a sheet, with this tree.
 abbrev pub Spells : List Token → Sheet → Type 0

@@ -1,6 +1,6 @@
 -- Whatever resolves keeps inside its regions and calls what is there. Assumes nothing.
 use Rattle.std.proofs.Common.{◌≡◌, ℕ, suc, ◌+◌, ◌*◌, ◌<◌, ◌≤◌, Bool, true, false, cond, eqb, leb, List, [], ◌∷◌, ◌++◌, length, Some, None, Option, sym, refl, ap, subst, mul-le-mul_right, suc-mul, mul-le-mul_left, mul-pos, mul-one, arith}
-use Rattle.std.specs.List.{AllByRecursion as All}
+use Rattle.std.specs.List.{AllByRecursion}
 use Rattle.std.proofs.ByRecursion.{All-append, All-weaker}
 use Rattle.std.proofs.lemmas.Bool.{leb-true, eqb-true}
 use Rattle.reckoning.specs.Meaning.{largest}
@@ -241,7 +241,7 @@ module _ (s : Sheet) (limited : Limited s) (rs : List Routine) (there : (x : Nam
       few on_sheet = omega (arith, limited.cells)
       few in_frame = omega (arith, h.parameters, h.locals, plain_total f.parameters f.locals h.plain)
 
-  routines_fit : (fs : List Function) → All Within fs → Each (FitRoutines rs (total s.variables)) (routines s fs)
+  routines_fit : (fs : List Function) → AllByRecursion Within fs → Each (FitRoutines rs (total s.variables)) (routines s fs)
   routines_fit [] h = record { each = tt }
   routines_fit (f ∷ fs) h =
       all_of (routine s f) _ (routine_fits f h.0) (λ r fits.
@@ -264,12 +264,12 @@ cells_kept s p is = at_some (λ q. q.cells ≡ total s.variables) (resolved s) p
 pub functions_kept : (s : Sheet) (p : Program) → resolved s ≡ Some p → length p.routines ≡ length s.functions
 functions_kept s p is = at_some (λ q. length q.routines ≡ length s.functions) (resolved s) p is (all_of (routines s s.functions) _ (routines_count s s.functions) (λ rs same-many. record { each = same-many }))
 
-routines_few : (s : Sheet) (fs : List Function) → All Within fs → Each (λ rs. All (λ r. r.parameters ≤ 8) rs) (routines s fs)
+routines_few : (s : Sheet) (fs : List Function) → AllByRecursion Within fs → Each (λ rs. AllByRecursion (λ r. r.parameters ≤ 8) rs) (routines s fs)
 routines_few s [] h = record { each = tt }
 routines_few s (f ∷ fs) h =
     all_by (routine s f) _ (λ r is.
     all_of (routines s fs) _ (routines_few s fs h.1) (λ rs few.
     record { each = (at_some (λ r. r.parameters ≤ 8) (routine s f) r is (all_by (statements s (own f) f.body) _ (λ b _. record { each = h.0.parameters })), few) }))
 
-pub parameters_few : (s : Sheet) (p : Program) → Limited s → resolved s ≡ Some p → All (λ r. r.parameters ≤ 8) p.routines
-parameters_few s p limited is = at_some (λ q. All (λ r. r.parameters ≤ 8) q.routines) (resolved s) p is (all_of (routines s s.functions) _ (routines_few s s.functions limited.functions) (λ rs few. record { each = few }))
+pub parameters_few : (s : Sheet) (p : Program) → Limited s → resolved s ≡ Some p → AllByRecursion (λ r. r.parameters ≤ 8) p.routines
+parameters_few s p limited is = at_some (λ q. AllByRecursion (λ r. r.parameters ≤ 8) q.routines) (resolved s) p is (all_of (routines s s.functions) _ (routines_few s s.functions limited.functions) (λ rs few. record { each = few }))

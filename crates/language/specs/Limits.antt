@@ -1,20 +1,20 @@
 -- The limits of a sheet's declarations. Assumes nothing.
 use Rattle.std.specs.Prelude.{◌≡◌, ℕ, ◌≤◌, List, [], length}
-use Rattle.std.specs.List.{AllByRecursion as All}
+use Rattle.std.specs.List.{AllByRecursion}
 use Rattle.language.specs.Tree.{Variable, Function, Sheet}
 use Rattle.language.specs.Scope.{total}
 
 -- every size is at least 1
 abbrev pub Sized : List ℕ → Type 0
-Sized ns = All (λ n. 1 ≤ n) ns
+Sized ns = AllByRecursion (λ n. 1 ≤ n) ns
 
 -- no array of 0 cells
 abbrev pub Positive : List Variable → Type 0
-Positive vs = All (λ v. Sized v.sizes) vs
+Positive vs = AllByRecursion (λ v. Sized v.sizes) vs
 
 -- no array at all
 abbrev pub Plain : List Variable → Type 0
-Plain vs = All (λ v. v.sizes ≡ []) vs
+Plain vs = AllByRecursion (λ v. v.sizes ≡ []) vs
 
 -- at most 8 parameters, none of them an array, and at most 128 cells of local variables
 pub record Within (f : Function) : Type 0 where
@@ -28,4 +28,4 @@ pub record Limited (s : Sheet) : Type 0 where
   pub positive : Positive s.variables
   pub cells : total s.variables ≤ 512
   pub few : length s.functions ≤ 64
-  pub functions : All Within s.functions
+  pub functions : AllByRecursion Within s.functions

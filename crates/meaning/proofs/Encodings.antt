@@ -1,6 +1,6 @@
 -- Every instruction of a sheet's code has a word. Assumes nothing.
 use Rattle.std.proofs.Common.{◌≡◌, ℕ, ◌+◌, ◌*◌, ◌<◌, ◌≤◌, true, cond, ◌&&◌, leb, List, [], ◌∷◌, ◌++◌, length, get_or, ℤ, pos, negsuc, Some, None, Option, sym, refl, ap, ◌∙◌, subst, arith, le-leb}
-use Rattle.std.specs.List.{slice_get, AllByRecursion as All}
+use Rattle.std.specs.List.{slice_get, AllByRecursion}
 use Rattle.std.proofs.ByRecursion.{All-append}
 use Rattle.std.proofs.lemmas.List.{length-append}
 use Rattle.reckoning.specs.Meaning.{largest}
@@ -40,7 +40,7 @@ module _ (rs : List Routine) (g n : ℕ) (few : (r : Region) → room g n r ≤ 
   starts_low r js at inside = omega (arith, starts_inside rs g n (room g n r) js at inside, few r)
 
   mutual
-    expression : (e : Expression) → Fits rs g n e → All HasWord (code_expression st e)
+    expression : (e : Expression) → Fits rs g n e → AllByRecursion HasWord (code_expression st e)
     expression (constant k) fits = (small (LoadConstant (pos k)) k 0 refl (omega arith), tt)
     expression (value r at js) fits = (based r at (starts_low r js at fits), All-append HasWord (code_subscripts st js) _ (subscripts (room g n r) js at fits) (small Load 0 0 refl (omega arith), tt))
     expression (assignment r at js e) fits = All-append HasWord (code_expression st e) _ (expression e fits.1) (based r at (starts_low r js at fits.0), All-append HasWord (code_subscripts st js) _ (subscripts (room g n r) js at fits.0) (small Store 0 0 refl (omega arith), tt))
@@ -54,19 +54,19 @@ module _ (rs : List Routine) (g n : ℕ) (few : (r : Region) → room g n r ≤ 
     expression (inversion p e) fits = All-append HasWord (code_expression st e) _ (expression e fits) (small Not 0 p refl (omega arith), tt)
     expression (operation o p l r) fits = All-append HasWord (code_expression st l) _ (expression l fits.0) (All-append HasWord (code_expression st r) _ (expression r fits.1) (small (Operate o) 0 p refl (omega arith), tt))
 
-    subscripts : (limit : ℕ) (js : Subscripts) (at : ℕ) → Inside rs g n limit js at → All HasWord (code_subscripts st js)
+    subscripts : (limit : ℕ) (js : Subscripts) (at : ℕ) → Inside rs g n limit js at → AllByRecursion HasWord (code_subscripts st js)
     subscripts limit whole_of at inside = tt
     subscripts limit (subscript p k each e js) at inside =
         All-append HasWord (code_expression st e) _ (expression e inside.0)
         (small (Check (pos k)) k p refl (omega (arith, inside.5)), (small (LoadConstant (pos each)) each 0 refl (omega (arith, inside.2)), (small (Operate Multiply) 0 0 refl (omega arith), (small (Operate Add) 0 0 refl (omega arith), subscripts limit js (at + 0 * each) (inside.3 0 inside.4).1))))
 
-    arguments : (es : Arguments) → FitArgs rs g n es → All HasWord (code_arguments st es)
+    arguments : (es : Arguments) → FitArgs rs g n es → AllByRecursion HasWord (code_arguments st es)
     arguments none fits = tt
     arguments (also e es) fits = All-append HasWord (code_expression st e) _ (expression e fits.0) (arguments es fits.1)
 
   -- up to an address that code may reach
   mutual
-    statement : (s : Statement) (at : ℕ) → FitStatement rs g n s → at + length (code_statement st at s) ≤ 16384 → All HasWord (code_statement st at s)
+    statement : (s : Statement) (at : ℕ) → FitStatement rs g n s → at + length (code_statement st at s) ≤ 16384 → AllByRecursion HasWord (code_statement st at s)
     statement (perform e) at fits low = All-append HasWord (code_expression st e) _ (expression e fits) (small Pop 0 0 refl (omega arith), tt)
     statement (sequence ss) at fits low = statements ss at fits low
     statement (give e) at fits low = All-append HasWord (code_expression st e) _ (expression e fits) ((_, sym (encoded_is (LoadRelative (negsuc 2)) _ refl refl)), (small Store 0 0 refl (omega arith), (small Return 0 0 refl (omega arith), tt)))
@@ -90,7 +90,7 @@ module _ (rs : List Routine) (g n : ℕ) (few : (r : Region) → room g n r ≤ 
         let sizes : length (ce ++ (((JumpZero (pos past), p) ∷ body) ++ (Jump (pos at), p) ∷ [])) ≡ length ce + length body + 2 = simp length-append (omega arith) in
         All-append HasWord ce _ (expression e fits.0) (small (JumpZero (pos past)) past p refl (omega arith), All-append HasWord body _ (statement s (at + length ce + 1) fits.1 (omega arith)) (small (Jump (pos at)) at p refl (omega arith), tt))
 
-    statements : (ss : Statements) (at : ℕ) → FitStatements rs g n ss → at + length (code_statements st at ss) ≤ 16384 → All HasWord (code_statements st at ss)
+    statements : (ss : Statements) (at : ℕ) → FitStatements rs g n ss → at + length (code_statements st at ss) ≤ 16384 → AllByRecursion HasWord (code_statements st at ss)
     statements finish at fits low = tt
     statements (first s ss) at fits low =
         let one = code_statement st at s in
@@ -99,7 +99,7 @@ module _ (rs : List Routine) (g n : ℕ) (few : (r : Region) → room g n r ≤ 
         All-append HasWord one rest (statement s at fits.0 (omega arith)) (statements ss (at + length one) fits.1 (omega arith))
 
 module _ (rs : List Routine) (g : ℕ) (st : List ℕ) (near : (f : ℕ) → get_or st f 0 ≤ largest) (arguments-few : (f : ℕ) (r : Routine) → slice_get rs f ≡ Some r → r.parameters ≤ 8) (g-few : g ≤ 512) where
-  routines : (qs : List Routine) (at : ℕ) → FitRoutines rs g qs → All (λ r. need r ≤ 300) qs → All (λ r. r.parameters ≤ 8) qs → at + length (code_routines st at qs) ≤ 16384 → All HasWord (code_routines st at qs)
+  routines : (qs : List Routine) (at : ℕ) → FitRoutines rs g qs → AllByRecursion (λ r. need r ≤ 300) qs → AllByRecursion (λ r. r.parameters ≤ 8) qs → at + length (code_routines st at qs) ≤ 16384 → AllByRecursion HasWord (code_routines st at qs)
   routines [] at fits needs few low = tt
   routines (q ∷ qs) at fits needs few low =
       let sizes = length-append (code_routine st at q) (code_routines st (at + size q) qs) in

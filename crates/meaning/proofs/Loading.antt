@@ -1,6 +1,6 @@
 -- Where the code of a function stands in lists that begin with that of its sheet. Assumes nothing.
 use Rattle.std.proofs.Common.{◌≡◌, ℕ, zero, suc, ◌+◌, ◌≤◌, List, [], ◌∷◌, ◌++◌, length, get_or, Some, None, Option, unwrap_or, sym, refl, ap, subst, add-zero, arith}
-use Rattle.std.specs.List.{slice_get, AllByRecursion as All}
+use Rattle.std.specs.List.{slice_get, AllByRecursion}
 use Rattle.std.proofs.lemmas.List.{length-append}
 use Rattle.reckoning.specs.Meaning.{largest}
 use Rattle.instructions.specs.Words.{encoded}
@@ -53,7 +53,7 @@ starts_small p low f = go (slice_get p.routines f) refl
         omega (arith, found.3, ap length found.2, length-append found.0 (code_routine (starts p) (get_or (starts p) f 0) r ++ found.1), length-append (code_routine (starts p) (get_or (starts p) f 0) r) found.1)
     go None is = omega (arith, starts_nowhere 1 p.routines f is)
 
-pub all_nth : {X : Type 0} (P : X → Type 0) (xs : List X) → All P xs → (i : ℕ) (x : X) → slice_get xs i ≡ Some x → P x
+pub all_nth : {X : Type 0} (P : X → Type 0) (xs : List X) → AllByRecursion P xs → (i : ℕ) (x : X) → slice_get xs i ≡ Some x → P x
 all_nth P [] h i x is = absurd (let clash : ◌≡◌ {A = ℕ} 0 1 = cc in omega arith)
 all_nth P (y ∷ ys) h zero x is = subst P (let e : y ≡ x = cc in e) h.0
 all_nth P (y ∷ ys) h (suc i) x is = all_nth P ys h.1 i x is

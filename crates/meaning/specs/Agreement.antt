@@ -1,6 +1,6 @@
 -- Translation and reading agree: the code of a sheet does on the machine what its reading says. Assumes nothing.
 use Rattle.std.specs.Prelude.{◌≡◌, ℕ, ◌+◌, ◌≤◌, List, [], ◌∷◌, ◌++◌, length, take, drop, pos, Some, slice_index}
-use Rattle.std.specs.List.{slice_get, AllByRecursion as All}
+use Rattle.std.specs.List.{slice_get, AllByRecursion}
 use Rattle.reckoning.specs.Meaning.{Meaning}
 use Rattle.instructions.specs.Words.{encoded}
 use Rattle.machine.specs.declared.Ending.{Ending}
@@ -54,4 +54,4 @@ Agreement {Cell} m =
 
 -- There are such code lists: every instruction of the code of such a sheet has a word.
 abbrev pub Encodable : Type 0
-Encodable = (s : Sheet) (p : Program) → resolved s ≡ Some p → Limited s → Compact p → All (λ l. (w : ℕ) × (encoded l.0 ≡ Some w)) (code p)
+Encodable = (s : Sheet) (p : Program) → resolved s ≡ Some p → Limited s → Compact p → AllByRecursion (λ l. (w : ℕ) × (encoded l.0 ≡ Some w)) (code p)

@@ -1,6 +1,6 @@
 -- Members of lists that are put together, and lists that have none. Assumes nothing.
 use Rattle.std.proofs.Common.{◌≡◌, ℕ, Bool, true, false, cond, eqb, ◌⊎◌, List, [], ◌∷◌, ◌++◌, sym, refl, ap, subst, inl, inr, ⊎_elim, arith}
-use Rattle.std.specs.List.{AllByRecursion as All}
+use Rattle.std.specs.List.{AllByRecursion}
 use Rattle.std.proofs.lemmas.Bool.{eqb-true, eq-eqb, both_ways}
 use Rattle.names.specs.Questions.{Fault, Rule, gathered, numbered, faults, unless}
 use Rattle.names.specs.Laws.{Among}
@@ -37,7 +37,7 @@ module _ {X : Type 0} where
   pub none_both : (xs ys : List X) → xs ≡ [] → ys ≡ [] → xs ++ ys ≡ []
   none_both xs ys is are = rw (is, are)
 
-  pub all_split : (P : X → Type 0) (xs ys : List X) → All P (xs ++ ys) → All P xs × All P ys
+  pub all_split : (P : X → Type 0) (xs ys : List X) → AllByRecursion P (xs ++ ys) → AllByRecursion P xs × AllByRecursion P ys
   all_split P [] ys h = (tt, h)
   all_split P (x ∷ xs) ys h = let r = all_split P xs ys h.1 in ((h.0, r.0), r.1)
 
@@ -60,11 +60,11 @@ module _ {X Y : Type 0} (f : X → List Y) where
   to_gathered (z ∷ xs) x y (inl e) h = among_left (f z) (gathered f xs) y (subst (λ w. Among y (f w)) e h)
   to_gathered (z ∷ xs) x y (inr a) h = among_right (f z) (gathered f xs) y (to_gathered xs x y a h)
 
-  pub gathered_none : (xs : List X) → gathered f xs ≡ [] → All (λ x. f x ≡ []) xs
+  pub gathered_none : (xs : List X) → gathered f xs ≡ [] → AllByRecursion (λ x. f x ≡ []) xs
   gathered_none [] is = tt
   gathered_none (x ∷ xs) is = (none_left (f x) (gathered f xs) is, gathered_none xs (none_right (f x) (gathered f xs) is))
 
-  pub none_gathered : (xs : List X) → All (λ x. f x ≡ []) xs → gathered f xs ≡ []
+  pub none_gathered : (xs : List X) → AllByRecursion (λ x. f x ≡ []) xs → gathered f xs ≡ []
   none_gathered [] h = refl
   none_gathered (x ∷ xs) h = none_both (f x) (gathered f xs) h.0 (none_gathered xs h.1)
 
@@ -119,7 +119,7 @@ to_faults (r ∷ rs) p n h = ⊎_elim
     go false test a = absurd a
 
 -- a fault has the number of a rule
-pub faults_number : (P : ℕ → Type 0) (rs : List Rule) (p n : ℕ) → All (λ r. P r.0) rs → Among {X = Fault} (p, n) (faults rs) → P n
+pub faults_number : (P : ℕ → Type 0) (rs : List Rule) (p n : ℕ) → AllByRecursion (λ r. P r.0) rs → Among {X = Fault} (p, n) (faults rs) → P n
 faults_number P [] p n h a = absurd a
 faults_number P (r ∷ rs) p n h a = ⊎_elim
     (λ b. subst P (sym (from_numbered r.0 r.1 p n b).0) h.0)
@@ -131,10 +131,10 @@ numbered_none : (m : ℕ) (ps : List ℕ) → numbered (m, ps) ≡ [] → ps ≡
 numbered_none m [] is = refl
 numbered_none m (p ∷ ps) is = filled {X = Fault} (p, m) (numbered (m, ps)) is
 
-pub faults_none : (rs : List Rule) → faults rs ≡ [] → All (λ r. r.1 ≡ []) rs
+pub faults_none : (rs : List Rule) → faults rs ≡ [] → AllByRecursion (λ r. r.1 ≡ []) rs
 faults_none [] is = tt
 faults_none (r ∷ rs) is = (numbered_none r.0 r.1 (none_left (numbered r) (faults rs) is), faults_none rs (none_right (numbered r) (faults rs) is))
 
-pub none_faults : (rs : List Rule) → All (λ r. r.1 ≡ []) rs → faults rs ≡ []
+pub none_faults : (rs : List Rule) → AllByRecursion (λ r. r.1 ≡ []) rs → faults rs ≡ []
 none_faults [] h = refl
 none_faults (r ∷ rs) h = rw (h.0, none_faults rs h.1)

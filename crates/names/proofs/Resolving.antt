@@ -1,6 +1,6 @@
 -- An expression resolves exactly when nothing in it has a fault. Assumes nothing.
 use Rattle.std.proofs.Common.{◌≡◌, ℕ, ◌≤◌, Bool, true, false, cond, eqb, leb, ◌↔◌, List, [], ◌∷◌, ◌++◌, length, Some, None, Option, refl, subst, arith}
-use Rattle.std.specs.List.{AllByRecursion as All}
+use Rattle.std.specs.List.{AllByRecursion}
 use Rattle.std.proofs.ByRecursion.{All-append}
 use Rattle.std.proofs.lemmas.Bool.{leb-true, le-leb, eqb-true, eq-eqb, cond-true}
 use Rattle.reckoning.specs.Meaning.{largest}
@@ -76,7 +76,7 @@ module _ (s : Sheet) (vs : List Variable) where
   Clean e = (left_at e ≡ []) × (used_at s vs e ≡ []) × (counted_at s vs e ≡ []) × Small e
 
   mutual
-    expression_there : (e : Expr) → All Clean (parts e) → There (expression s vs e)
+    expression_there : (e : Expr) → AllByRecursion Clean (parts e) → There (expression s vs e)
     expression_there (number n) h = record { found = constant n; is = cond-true _ _ _ (le-leb n largest h.0.3) }
     expression_there (variable p x is) h =
         let fits = unless_none (indexed (depth is) (looked_up s vs x)) p h.0.1 in
@@ -94,7 +94,7 @@ module _ (s : Sheet) (vs : List Variable) where
         there_of (target s vs l) _ (target_there l (unless_none (is_variable l) p h.0.0) two.0) (λ t. there_of (expression s vs r) _ (expression_there r two.1) (λ b. here _))
     expression_there (brackets e) h = expression_there e h.1
 
-    target_there : (e : Expr) → is_variable e ≡ true → All Clean (parts e) → There (target s vs e)
+    target_there : (e : Expr) → is_variable e ≡ true → AllByRecursion Clean (parts e) → There (target s vs e)
     target_there (number n) is h = torn false refl is
     target_there (variable p x js) is h =
         let fits = unless_none (indexed (depth js) (looked_up s vs x)) p h.0.1 in
@@ -106,7 +106,7 @@ module _ (s : Sheet) (vs : List Variable) where
     target_there (assign p l r) is h = torn false refl is
     target_there (brackets e) is h = torn false refl is
 
-    subscripts_there : (is : Indices) (ns : List ℕ) → depth is ≡ length ns → All Clean (parts_indices is) → There (subscripts s vs is ns)
+    subscripts_there : (is : Indices) (ns : List ℕ) → depth is ≡ length ns → AllByRecursion Clean (parts_indices is) → There (subscripts s vs is ns)
     subscripts_there plain [] many h = here _
     subscripts_there plain (n ∷ ns) many h = absurd (omega arith)
     subscripts_there (index p e is) [] many h = absurd (omega arith)
@@ -114,14 +114,14 @@ module _ (s : Sheet) (vs : List Variable) where
         let two = all_split Clean (parts e) (parts_indices is) h in
         there_of (expression s vs e) _ (expression_there e two.0) (λ a. there_of (subscripts s vs is ns) _ (subscripts_there is ns (omega arith) two.1) (λ js. here _))
 
-    arguments_there : (es : Args) → All Clean (parts_args es) → There (arguments s vs es)
+    arguments_there : (es : Args) → AllByRecursion Clean (parts_args es) → There (arguments s vs es)
     arguments_there no_args h = here _
     arguments_there (argument e es) h =
         let two = all_split Clean (parts e) (parts_args es) h in
         there_of (expression s vs e) _ (expression_there e two.0) (λ a. there_of (arguments s vs es) _ (arguments_there es two.1) (λ xs. here _))
 
   mutual
-    statement_there : (t : Stmt) → All Clean (parts_statement t) → There (statement s vs t)
+    statement_there : (t : Stmt) → AllByRecursion Clean (parts_statement t) → There (statement s vs t)
     statement_there (expr e) h = there_of (expression s vs e) _ (expression_there e h) (λ a. here _)
     statement_there (block ts) h = there_of (statements s vs ts) _ (statements_there ts h) (λ a. here _)
     statement_there (return e) h = there_of (expression s vs e) _ (expression_there e h) (λ a. here _)
@@ -141,14 +141,14 @@ module _ (s : Sheet) (vs : List Variable) where
         let last = all_split Clean (parts g) (parts_statement t) more.1 in
         there_of (expression s vs e) _ (expression_there e two.0) (λ a. there_of (expression s vs f) _ (expression_there f more.0) (λ b. there_of (expression s vs g) _ (expression_there g last.0) (λ c. there_of (statement s vs t) _ (statement_there t last.1) (λ d. here _))))
 
-    statements_there : (ts : Stmts) → All Clean (parts_statements ts) → There (statements s vs ts)
+    statements_there : (ts : Stmts) → AllByRecursion Clean (parts_statements ts) → There (statements s vs ts)
     statements_there end h = here _
     statements_there (then t ts) h =
         let two = all_split Clean (parts_statement t) (parts_statements ts) h in
         there_of (statement s vs t) _ (statement_there t two.0) (λ a. there_of (statements s vs ts) _ (statements_there ts two.1) (λ b. here _))
 
   mutual
-    expression_clean : (e : Expr) → There (expression s vs e) → All Clean (parts e)
+    expression_clean : (e : Expr) → There (expression s vs e) → AllByRecursion Clean (parts e)
     expression_clean (number n) h = ((refl, refl, refl, number_small n h), tt)
     expression_clean (variable p x is) h =
         let a = after (slot_of (looked_up s vs x)) _ h in
@@ -168,7 +168,7 @@ module _ (s : Sheet) (vs : List Variable) where
         ((none_unless (is_variable l) p t.0, refl, refl, tt), All-append _ (parts l) (parts r) t.1 (expression_clean r (before (expression s vs r) _ a.2)))
     expression_clean (brackets e) h = ((refl, refl, refl, tt), expression_clean e h)
 
-    target_clean : (e : Expr) → There (target s vs e) → (is_variable e ≡ true) × All Clean (parts e)
+    target_clean : (e : Expr) → There (target s vs e) → (is_variable e ≡ true) × AllByRecursion Clean (parts e)
     target_clean (number n) h = clash h.found h.is
     target_clean (variable p x is) h =
         let a = after (slot_of (looked_up s vs x)) _ h in
@@ -180,7 +180,7 @@ module _ (s : Sheet) (vs : List Variable) where
     target_clean (assign p l r) h = clash h.found h.is
     target_clean (brackets e) h = clash h.found h.is
 
-    subscripts_clean : (is : Indices) (ns : List ℕ) → There (subscripts s vs is ns) → (depth is ≡ length ns) × All Clean (parts_indices is)
+    subscripts_clean : (is : Indices) (ns : List ℕ) → There (subscripts s vs is ns) → (depth is ≡ length ns) × AllByRecursion Clean (parts_indices is)
     subscripts_clean plain [] h = (refl, tt)
     subscripts_clean plain (n ∷ ns) h = clash h.found h.is
     subscripts_clean (index p e is) [] h = clash h.found h.is
@@ -189,14 +189,14 @@ module _ (s : Sheet) (vs : List Variable) where
         let r = subscripts_clean is ns (before (subscripts s vs is ns) _ a.2) in
         (omega (arith, r.0), All-append _ (parts e) (parts_indices is) (expression_clean e (before (expression s vs e) _ h)) r.1)
 
-    arguments_clean : (es : Args) → There (arguments s vs es) → All Clean (parts_args es)
+    arguments_clean : (es : Args) → There (arguments s vs es) → AllByRecursion Clean (parts_args es)
     arguments_clean no_args h = tt
     arguments_clean (argument e es) h =
         let a = after (expression s vs e) _ h in
         All-append _ (parts e) (parts_args es) (expression_clean e (before (expression s vs e) _ h)) (arguments_clean es (before (arguments s vs es) _ a.2))
 
   mutual
-    statement_clean : (t : Stmt) → There (statement s vs t) → All Clean (parts_statement t)
+    statement_clean : (t : Stmt) → There (statement s vs t) → AllByRecursion Clean (parts_statement t)
     statement_clean (expr e) h = expression_clean e (before (expression s vs e) _ h)
     statement_clean (block ts) h = statements_clean ts (before (statements s vs ts) _ h)
     statement_clean (return e) h = expression_clean e (before (expression s vs e) _ h)
@@ -219,7 +219,7 @@ module _ (s : Sheet) (vs : List Variable) where
         (All-append _ (parts f) (parts g ++ parts_statement t) (expression_clean f (before (expression s vs f) _ a.2))
         (All-append _ (parts g) (parts_statement t) (expression_clean g (before (expression s vs g) _ b.2)) (statement_clean t (before (statement s vs t) _ c.2))))
 
-    statements_clean : (ts : Stmts) → There (statements s vs ts) → All Clean (parts_statements ts)
+    statements_clean : (ts : Stmts) → There (statements s vs ts) → AllByRecursion Clean (parts_statements ts)
     statements_clean end h = tt
     statements_clean (then t ts) h =
         let a = after (statement s vs t) _ h in
@@ -227,22 +227,22 @@ module _ (s : Sheet) (vs : List Variable) where
 
 -- nothing in a function's body has a fault
 abbrev pub CleanBody : Sheet → Function → Type 0
-CleanBody s f = All (Clean s (own f)) (parts_statements f.body)
+CleanBody s f = AllByRecursion (Clean s (own f)) (parts_statements f.body)
 
-routines_there : (s : Sheet) (fs : List Function) → All (CleanBody s) fs → There (routines s fs)
+routines_there : (s : Sheet) (fs : List Function) → AllByRecursion (CleanBody s) fs → There (routines s fs)
 routines_there s [] h = here _
 routines_there s (f ∷ fs) h =
     there_of (routine s f) _ (there_of (statements s (own f) f.body) _ (statements_there s (own f) f.body h.0) (λ b. here _)) (λ r.
     there_of (routines s fs) _ (routines_there s fs h.1) (λ rs. here _))
 
-routines_clean : (s : Sheet) (fs : List Function) → There (routines s fs) → All (CleanBody s) fs
+routines_clean : (s : Sheet) (fs : List Function) → There (routines s fs) → AllByRecursion (CleanBody s) fs
 routines_clean s [] h = tt
 routines_clean s (f ∷ fs) h =
     let a = after (routine s f) _ h in
     (statements_clean s (own f) f.body (before (statements s (own f) f.body) _ (before (routine s f) _ h)), routines_clean s fs (before (routines s fs) _ a.2))
 
-pub resolved_there : (s : Sheet) → All (CleanBody s) s.functions → There (resolved s)
+pub resolved_there : (s : Sheet) → AllByRecursion (CleanBody s) s.functions → There (resolved s)
 resolved_there s h = there_of (routines s s.functions) _ (routines_there s s.functions h) (λ rs. here _)
 
-pub resolved_clean : (s : Sheet) → There (resolved s) → All (CleanBody s) s.functions
+pub resolved_clean : (s : Sheet) → There (resolved s) → AllByRecursion (CleanBody s) s.functions
 resolved_clean s h = routines_clean s s.functions (before (routines s s.functions) _ h)

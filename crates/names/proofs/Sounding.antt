@@ -1,6 +1,6 @@
 -- Names have no fault exactly when the sheet may be translated. Assumes nothing.
 use Rattle.std.proofs.Common.{◌≡◌, ℕ, zero, suc, ◌+◌, ◌≤◌, Bool, true, false, cond, leb, List, [], ◌∷◌, ◌++◌, map, length, sym, refl, ◌∙◌, ⊎_elim, arith}
-use Rattle.std.specs.List.{AllByRecursion as All}
+use Rattle.std.specs.List.{AllByRecursion}
 use Rattle.std.proofs.ByRecursion.{All-weaker}
 use Rattle.std.proofs.lemmas.Bool.{leb-true, le-leb, and_parts, and_from, cases_order, cond-true}
 use Rattle.language.specs.Tree.{Expr, Variable, Function, Sheet}
@@ -97,7 +97,7 @@ within_from f plain is =
 within_to : (f : Function) → Within f → excesses_in f ≡ []
 within_to f h = keeps_to of_variable 8 f.parameters 128 f.locals (h.parameters, h.locals, h.positive)
 
-all_within : (fs : List Function) → All (λ f. Plain f.parameters) fs → All (λ f. excesses_in f ≡ []) fs → All Within fs
+all_within : (fs : List Function) → AllByRecursion (λ f. Plain f.parameters) fs → AllByRecursion (λ f. excesses_in f ≡ []) fs → AllByRecursion Within fs
 all_within [] h k = tt
 all_within (f ∷ fs) h k = (within_from f h.0 k.0, all_within fs h.1 k.1)
 
@@ -135,24 +135,24 @@ declared_to s h =
 -- bodies
 module _ (s : Sheet) (at : List Variable → Expr → List ℕ) where
   abbrev Silent : Function → Type 0
-  Silent f = All (λ e. at (own f) e ≡ []) (parts_statements f.body)
+  Silent f = AllByRecursion (λ e. at (own f) e ≡ []) (parts_statements f.body)
 
-  silent_from : in_bodies s at ≡ [] → All Silent s.functions
+  silent_from : in_bodies s at ≡ [] → AllByRecursion Silent s.functions
   silent_from is = All-weaker _ _ (λ f h. gathered_none (at (own f)) (parts_statements f.body) h) s.functions (gathered_none (λ f. gathered (at (own f)) (parts_statements f.body)) s.functions is)
 
-  silent_to : All Silent s.functions → in_bodies s at ≡ []
+  silent_to : AllByRecursion Silent s.functions → in_bodies s at ≡ []
   silent_to h = none_gathered (λ f. gathered (at (own f)) (parts_statements f.body)) s.functions (All-weaker _ _ (λ f k. none_gathered (at (own f)) (parts_statements f.body) k) s.functions h)
 
-clean_each : (s : Sheet) (vs : List Variable) (es : List Expr) → All (λ e. left_at e ≡ []) es → All (λ e. used_at s vs e ≡ []) es → All (λ e. counted_at s vs e ≡ []) es → All Small es → All (Clean s vs) es
+clean_each : (s : Sheet) (vs : List Variable) (es : List Expr) → AllByRecursion (λ e. left_at e ≡ []) es → AllByRecursion (λ e. used_at s vs e ≡ []) es → AllByRecursion (λ e. counted_at s vs e ≡ []) es → AllByRecursion Small es → AllByRecursion (Clean s vs) es
 clean_each s vs [] a b c d = tt
 clean_each s vs (e ∷ es) a b c d = ((a.0, b.0, c.0, d.0), clean_each s vs es a.1 b.1 c.1 d.1)
 
-clean_all : (s : Sheet) (fs : List Function) → All (Silent s (λ vs e. left_at e)) fs → All (Silent s (used_at s)) fs → All (Silent s (counted_at s)) fs → All (λ f. All Small (parts_statements f.body)) fs → All (CleanBody s) fs
+clean_all : (s : Sheet) (fs : List Function) → AllByRecursion (Silent s (λ vs e. left_at e)) fs → AllByRecursion (Silent s (used_at s)) fs → AllByRecursion (Silent s (counted_at s)) fs → AllByRecursion (λ f. AllByRecursion Small (parts_statements f.body)) fs → AllByRecursion (CleanBody s) fs
 clean_all s [] a b c d = tt
 clean_all s (f ∷ fs) a b c d = (clean_each s (own f) (parts_statements f.body) a.0 b.0 c.0 d.0, clean_all s fs a.1 b.1 c.1 d.1)
 
 -- what one of the questions on expressions finds where all are answered yes
-silent_by : (s : Sheet) (at : List Variable → Expr → List ℕ) → ((vs : List Variable) (e : Expr) → Clean s vs e → at vs e ≡ []) → All (CleanBody s) s.functions → in_bodies s at ≡ []
+silent_by : (s : Sheet) (at : List Variable → Expr → List ℕ) → ((vs : List Variable) (e : Expr) → Clean s vs e → at vs e ≡ []) → AllByRecursion (CleanBody s) s.functions → in_bodies s at ≡ []
 silent_by s at pick h = silent_to s at (All-weaker _ _ (λ f k. All-weaker _ _ (pick (own f)) (parts_statements f.body) k) s.functions h)
 
 pub exact : Exact

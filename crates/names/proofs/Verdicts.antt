@@ -1,6 +1,6 @@
 -- The verdict: what is accepted, and which fault refuses. Assumes nothing.
 use Rattle.std.proofs.Common.{◌≡◌, ℕ, ◌≤◌, true, false, ◌&&◌, eqb, ltb, leb, ◌⊎◌, List, [], ◌∷◌, length, Some, None, Option, sym, refl, ap, ◌∙◌, subst, inl, inr, ⊎_elim, le_refl, arith}
-use Rattle.std.specs.List.{AllByRecursion as All}
+use Rattle.std.specs.List.{AllByRecursion}
 use Rattle.std.proofs.lemmas.Bool.{leb-true, leb-false, le-leb, ltb-true, ltb-false, eqb-true, eqb-false, or_cases, or_parts, and_parts, and_cases, cond_both, cases_order}
 use Rattle.language.specs.Tree.{Function, Sheet}
 use Rattle.language.specs.Resolved.{Routine, Program}
@@ -89,7 +89,7 @@ some_least fs f h = go (least fs) refl
         ap Some (no_later_both g f (r.first f h.among) (h.first g r.among))
 
 -- code without faults is compact
-needs_from : (fs : List Function) (rs : List Routine) → length rs ≡ length fs → needy fs rs ≡ [] → All (λ r. need r ≤ 300) rs
+needs_from : (fs : List Function) (rs : List Routine) → length rs ≡ length fs → needy fs rs ≡ [] → AllByRecursion (λ r. need r ≤ 300) rs
 needs_from [] [] many is = tt
 needs_from [] (r ∷ rs) many is = absurd (omega arith)
 needs_from (f ∷ fs) [] many is = tt
@@ -97,7 +97,7 @@ needs_from (f ∷ fs) (r ∷ rs) many is =
     let here = unless (leb (need r) 300) f.place in
     (leb-true (need r) 300 (unless_none (leb (need r) 300) f.place (none_left here (needy fs rs) is)), needs_from fs rs (omega arith) (none_right here (needy fs rs) is))
 
-needs_to : (fs : List Function) (rs : List Routine) → All (λ r. need r ≤ 300) rs → needy fs rs ≡ []
+needs_to : (fs : List Function) (rs : List Routine) → AllByRecursion (λ r. need r ≤ 300) rs → needy fs rs ≡ []
 needs_to [] rs h = refl
 needs_to (f ∷ fs) [] h = refl
 needs_to (f ∷ fs) (r ∷ rs) h = none_both (unless (leb (need r) 300) f.place) (needy fs rs) (none_unless (leb (need r) 300) f.place (le-leb (need r) 300 h.0)) (needs_to fs rs h.1)

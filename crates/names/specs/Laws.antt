@@ -1,6 +1,6 @@
 -- What is proved of the questions. Assumes nothing.
 use Rattle.std.specs.Prelude.{◌≡◌, ℕ, ◌+◌, ◌<◌, ◌≤◌, ◌≢◌, ◌⊎◌, ◌↔◌, List, [], ◌∷◌, length, Some}
-use Rattle.std.specs.List.{slice_get, AllByRecursion as All}
+use Rattle.std.specs.List.{slice_get, AllByRecursion}
 use Rattle.reckoning.specs.Meaning.{largest}
 use Rattle.language.specs.Tree.{Name, Expr, number, variable, call, unary, binary, assign, brackets, Indices, Args, Variable, Function, Sheet}
 use Rattle.language.specs.Resolved.{Routine, Program}
@@ -30,10 +30,10 @@ Small (assign p l r) = Unit {0}
 Small (brackets e) = Unit {0}
 
 abbrev pub SmallNumbers : Sheet → Type 0
-SmallNumbers s = All (λ f. All Small (parts_statements f.body)) s.functions
+SmallNumbers s = AllByRecursion (λ f. AllByRecursion Small (parts_statements f.body)) s.functions
 
 abbrev pub PlainParameters : Sheet → Type 0
-PlainParameters s = All (λ f. Plain f.parameters) s.functions
+PlainParameters s = AllByRecursion (λ f. Plain f.parameters) s.functions
 
 pub record Readable (s : Sheet) : Type 0 where
   pub numbers : SmallNumbers s
@@ -45,7 +45,7 @@ Once ds = (i j : ℕ) (d e : Declaration) → slice_get ds i ≡ Some d → slic
 
 pub record DeclaredOnce (s : Sheet) : Type 0 where
   pub sheet : Once (on_the_sheet s)
-  pub functions : All (λ f. Once (in_function f)) s.functions
+  pub functions : AllByRecursion (λ f. Once (in_function f)) s.functions
 
 -- A sheet that may be translated: names resolve, limits are kept, and every name is declared once.
 pub record Sound (s : Sheet) (p : Program) : Type 0 where

@@ -1,6 +1,6 @@
 -- The definition of a text's tokens keeps the words of its reader. Assumes nothing.
 use Rattle.std.proofs.Common.{◌≡◌, ℕ, zero, suc, ◌+◌, ◌-◌, ◌≤◌, min, Bool, true, false, cond, not, ◌&&◌, leb, ◌⊎◌, List, [], ◌∷◌, ◌++◌, length, take, drop, Some, None, Ok, Err, Option, Result, sym, refl, ap, ◌∙◌, subst, subst₂, inl, inr, zero-le, add-zero, arith, take-append-drop}
-use Rattle.std.specs.List.{prefix_len, AllByRecursion as All}
+use Rattle.std.specs.List.{prefix_len, AllByRecursion}
 use Rattle.std.specs.Str.{bytes_eq}
 use Rattle.std.proofs.lemmas.Slice.Eq.{bytes_eq-Decides}
 use Rattle.std.proofs.lemmas.List.Sums.{prefix_len-le-length}
@@ -33,13 +33,13 @@ leading_more : (p : ℕ → Bool) (b : ℕ) (bs : List ℕ) → p b ≡ true →
 leading_more p b bs e = let one : 1 + prefix_len p bs ≡ suc (prefix_len p bs) = omega arith in cond-true (p b) _ _ e ∙ one
 
 -- the run of a class: all of it passes, and what stands behind it does not
-leading_all : (p : ℕ → Bool) (bs : List ℕ) → All (λ b. p b ≡ true) (take (prefix_len p bs) bs)
+leading_all : (p : ℕ → Bool) (bs : List ℕ) → AllByRecursion (λ b. p b ≡ true) (take (prefix_len p bs) bs)
 leading_all p [] = tt
 leading_all p (b ∷ bs) = go (p b) refl (leading_all p bs)
   where
-    go : (t : Bool) → p b ≡ t → All (λ b. p b ≡ true) (take (prefix_len p bs) bs) → All (λ b. p b ≡ true) (take (prefix_len p (b ∷ bs)) (b ∷ bs))
-    go true e h = subst (λ n. All (λ b. p b ≡ true) (take n (b ∷ bs))) (sym (leading_more p b bs e)) (e, h)
-    go false e h = subst (λ n. All (λ b. p b ≡ true) (take n (b ∷ bs))) (sym (cond-false (p b) _ _ e)) tt
+    go : (t : Bool) → p b ≡ t → AllByRecursion (λ b. p b ≡ true) (take (prefix_len p bs) bs) → AllByRecursion (λ b. p b ≡ true) (take (prefix_len p (b ∷ bs)) (b ∷ bs))
+    go true e h = subst (λ n. AllByRecursion (λ b. p b ≡ true) (take n (b ∷ bs))) (sym (leading_more p b bs e)) (e, h)
+    go false e h = subst (λ n. AllByRecursion (λ b. p b ≡ true) (take n (b ∷ bs))) (sym (cond-false (p b) _ _ e)) tt
 
 leading_stops : (p : ℕ → Bool) (bs : List ℕ) (x : ℕ) (xs : List ℕ) → drop (prefix_len p bs) bs ≡ x ∷ xs → p x ≡ false
 leading_stops p [] x xs e = absurd (nil_cons x xs e)
@@ -61,7 +61,7 @@ spelled_is text (y ∷ ys) bs x e = go (bytes_eq bs (text y)) refl (spelled_is t
     go true h on = (bytes_eq-Decides bs (text y)).0 h ∙ ap text (same_some y x (sym (cond-true (bytes_eq bs (text y)) _ _ h) ∙ e))
     go false h on = on (sym (cond-false (bytes_eq bs (text y)) _ _ h) ∙ e)
 
-all_mid : (P : ℕ → Type 0) (w : List ℕ) (x : ℕ) (xs : List ℕ) → All P (w ++ x ∷ xs) → P x
+all_mid : (P : ℕ → Type 0) (w : List ℕ) (x : ℕ) (xs : List ℕ) → AllByRecursion P (w ++ x ∷ xs) → P x
 all_mid P [] x xs h = h.0
 all_mid P (b ∷ w) x xs h = all_mid P w x xs h.1
 

@@ -1,6 +1,6 @@
 -- Texts and their tokens. Assumes nothing.
 use Rattle.std.specs.Prelude.{◌≡◌, ℕ, List, [], ◌∷◌, Ok, Err, codes, Result}
-use Rattle.std.specs.List.{AllByRecursion as All}
+use Rattle.std.specs.List.{AllByRecursion}
 use Rattle.tokens.specs.declared.fault.Cause.{Cause}
 use Rattle.tokens.specs.declared.fault.Cause.TheVariants.{Stray, Limit, Count}
 use Rattle.tokens.specs.declared.fault.Fault.{Fault}
@@ -43,4 +43,4 @@ examples =
     []
 
 abbrev pub Agree : Type 0
-Agree = All (λ e. tokens e.text e.records ≡ e.gives) examples
+Agree = AllByRecursion (λ e. tokens e.text e.records ≡ e.gives) examples

@@ -1,22 +1,22 @@
 -- What the tokens of a text are, in the words of its reader. Assumes nothing.
 use Rattle.std.specs.Prelude.{◌≡◌, ℕ, ◌+◌, ◌≤◌, true, false, ◌⊎◌, List, [], ◌∷◌, ◌++◌, length, Some, None, Ok, Err, Option, Result}
-use Rattle.std.specs.List.{AllByRecursion as All}
+use Rattle.std.specs.List.{AllByRecursion}
 use Rattle.tokens.specs.declared.fault.Fault.{Fault}
 use Rattle.tokens.specs.declared.lexemes.Sign.{Sign}
 use Rattle.tokens.specs.Tokens.{Lexeme, word, sign, name, number, Piece, gap, letter, inner, digit, word_text, sign_text, kept, value, needless}
 
 abbrev pub Gaps : List ℕ → Type 0
-Gaps bs = All (λ b. gap b ≡ true) bs
+Gaps bs = AllByRecursion (λ b. gap b ≡ true) bs
 
 -- a letter or underscore, then letters, digits and underscores
 abbrev pub NameLike : List ℕ → Type 0
 NameLike [] = ⊥
-NameLike (b ∷ bs) = (letter b ≡ true) × All (λ c. inner c ≡ true) bs
+NameLike (b ∷ bs) = (letter b ≡ true) × AllByRecursion (λ c. inner c ≡ true) bs
 
 -- a run of digits
 abbrev pub NumberLike : List ℕ → Type 0
 NumberLike [] = ⊥
-NumberLike (b ∷ bs) = (digit b ≡ true) × All (λ c. digit c ≡ true) bs
+NumberLike (b ∷ bs) = (digit b ≡ true) × AllByRecursion (λ c. digit c ≡ true) bs
 
 abbrev pub SignLike : List ℕ → Type 0
 SignLike bs = (s : Sign) × (sign_text s ≡ bs)

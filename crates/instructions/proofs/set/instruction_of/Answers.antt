@@ -4,7 +4,7 @@ use Rattle.std.proofs.lemmas.Option.{slice_get_past}
 use Rattle.instructions.specs.Words.{table, signed}
 use Rattle.instructions.proofs.set.instruction_of.Goals as goal
 
-pub returns-in-default : goal.returns-in-default
-returns-in-default c =
+pub returns-in_default : goal.returns-in_default
+returns-in_default c =
     let past : 27 ≤ c.args.word / 16777216 = omega arith in
     sym (ap (option_map _) (slice_get_past table _ past))

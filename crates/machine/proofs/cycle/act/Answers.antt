@@ -7,22 +7,22 @@ use Rattle.machine.proofs.cycle.act.Goals as goal
 pub returns-in-Ok-Onward : goal.returns-in-Ok-Onward
 returns-in-Ok-Onward g c =
     let f0 : SFits w32 c.args.r.now.pc = search rules in
-    let f1 : SFits w32 c.in-ok-r.field-0 = search rules in
-    let f2 : SFits w32 c.operand-of.result = search rules in
+    let f1 : SFits w32 c.in_ok-r.field-0 = search rules in
+    let f2 : SFits w32 c.operand_of.result = search rules in
     let same : c.perform.result ≡ Ok Onward = search rules in
-    acts_onward g.R.Reckoning.meaning c.args.r.now c.args.store.now c.args.code.now _ _ _ (simp to_z-of_z at c.in-ok-word.ensures) (simp to_z-of_z at c.in-ok-r.ensures) c.operand-of.ensures _ (simp (to_z-of_z, same) at c.perform.ensures)
+    acts_onward g.R.Reckoning.meaning c.args.r.now c.args.store.now c.args.code.now _ _ _ (simp to_z-of_z at c.in_ok-word.ensures) (simp to_z-of_z at c.in_ok-r.ensures) c.operand_of.ensures _ (simp (to_z-of_z, same) at c.perform.ensures)
 
 pub returns-in-Ok-Halts : goal.returns-in-Ok-Halts
 returns-in-Ok-Halts g c =
     let f0 : SFits w32 c.args.r.now.pc = search rules in
-    let f1 : SFits w32 c.in-ok-r.field-0 = search rules in
-    let f2 : SFits w32 c.operand-of.result = search rules in
+    let f1 : SFits w32 c.in_ok-r.field-0 = search rules in
+    let f2 : SFits w32 c.operand_of.result = search rules in
     let same : c.perform.result ≡ Ok Halts = search rules in
-    simp to_z-of_z (acts_halts g.R.Reckoning.meaning c.args.r.now c.args.store.now c.args.code.now _ _ _ (simp to_z-of_z at c.in-ok-word.ensures) (simp to_z-of_z at c.in-ok-r.ensures) c.operand-of.ensures _ _ (simp (to_z-of_z, same) at c.perform.ensures))
+    simp to_z-of_z (acts_halts g.R.Reckoning.meaning c.args.r.now c.args.store.now c.args.code.now _ _ _ (simp to_z-of_z at c.in_ok-word.ensures) (simp to_z-of_z at c.in_ok-r.ensures) c.operand_of.ensures _ _ (simp (to_z-of_z, same) at c.perform.ensures))
 
 pub returns-in-Err : goal.returns-in-Err
 returns-in-Err g c =
     let f0 : SFits w32 c.args.r.now.pc = search rules in
-    let f1 : SFits w32 c.in-ok-r.field-0 = search rules in
-    let f2 : SFits w32 c.operand-of.result = search rules in
-    simp to_z-of_z (acts_stops g.R.Reckoning.meaning c.args.r.now c.args.store.now c.args.code.now _ _ _ (simp to_z-of_z at c.in-ok-word.ensures) (simp to_z-of_z at c.in-ok-r.ensures) c.operand-of.ensures _ _ _ (simp to_z-of_z at c.in-Err.ensures))
+    let f1 : SFits w32 c.in_ok-r.field-0 = search rules in
+    let f2 : SFits w32 c.operand_of.result = search rules in
+    simp to_z-of_z (acts_stops g.R.Reckoning.meaning c.args.r.now c.args.store.now c.args.code.now _ _ _ (simp to_z-of_z at c.in_ok-word.ensures) (simp to_z-of_z at c.in_ok-r.ensures) c.operand_of.ensures _ _ _ (simp to_z-of_z at c.in-Err.ensures))

@@ -22,7 +22,7 @@ returns-in-3 g c =
 
 pub returns-in-4 : goal.returns-in-4
 returns-in-4 g c =
-    performs g.R.Reckoning.meaning 4 c.args.operand c.in-4.is (c.args.r.now, c.args.store.now) _ (store_top g.R.Reckoning.meaning c.args.r.now c.args.store.now) _ _ refl c.store-top.ensures c.onward-in-4.ensures
+    performs g.R.Reckoning.meaning 4 c.args.operand c.in-4.is (c.args.r.now, c.args.store.now) _ (store_top g.R.Reckoning.meaning c.args.r.now c.args.store.now) _ _ refl c.store_top.ensures c.onward-in-4.ensures
 
 pub returns-in-5 : goal.returns-in-5
 returns-in-5 g c =

@@ -8,6 +8,6 @@ returns g c =
     let f0 : SFits w32 c.args.n = search rules in
     let f1 : SFits w32 c.args.r.now.sp = search rules in
     let f2 : SFits w32 c.args.r.now.pc = search rules in
-    let f3 : SFits w32 c.in-ok-sp.sp = search rules in
-    let f4 : SFits w32 c.in-ok-fp.fp = search rules in
-    call_done g.R.Reckoning.meaning c.args.r.now c.args.store.now c.args.n _ _ _ _ _ (simp to_z-of_z at c.in-ok-sp.ensures) (simp to_z-of_z at c.in-ok-fp.ensures) (simp to_z-of_z at c.in-ok-back.ensures) (simp to_z-of_z at c.link.ensures)
+    let f3 : SFits w32 c.in_ok-sp.sp = search rules in
+    let f4 : SFits w32 c.in_ok-fp.fp = search rules in
+    call_done g.R.Reckoning.meaning c.args.r.now c.args.store.now c.args.n _ _ _ _ _ (simp to_z-of_z at c.in_ok-sp.ensures) (simp to_z-of_z at c.in_ok-fp.ensures) (simp to_z-of_z at c.in_ok-back.ensures) (simp to_z-of_z at c.link.ensures)

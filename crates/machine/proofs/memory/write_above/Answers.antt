@@ -2,9 +2,9 @@ use Rattle.std.proofs.Common.{rules}
 use Rattle.machine.specs.Instructions.{pushed}
 use Rattle.machine.proofs.memory.write_above.Goals as goal
 
-pub returns-in-err-top : goal.returns-in-err-top
+pub returns-in_err-top : goal.returns-in_err-top
 unfolding pushed
-returns-in-err-top g c = search rules
+returns-in_err-top g c = search rules
 
 pub returns-then-top-store : goal.returns-then-top-store
 unfolding pushed

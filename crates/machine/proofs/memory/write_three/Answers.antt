@@ -6,4 +6,4 @@ use Rattle.machine.proofs.memory.write_three.Goals as goal
 pub returns : goal.returns
 returns g c =
     let f0 : SFits w32 c.args.address = search rules in
-    three_done c.args.store.now c.args.address _ _ _ _ (simp to_z-of_z at c.in-ok-first.ensures) c.if-store-lt3.false c.if-first-store.false
+    three_done c.args.store.now c.args.address _ _ _ _ (simp to_z-of_z at c.in_ok-first.ensures) c.if-store-lt3.false c.if-first-store.false

@@ -5,8 +5,8 @@ use Rattle.reckoning.proofs.wide.scaled.Goals as goal
 product_is : (c : goal.After-product) → c.product.result ≡ c.args.number *ℤ c.args.factor
 product_is c = search rules
 
-pub nonzero-div-result : goal.nonzero-div-result
-nonzero-div-result c = (
+pub nonzero_div-result : goal.nonzero_div-result
+nonzero_div-result c = (
   search rules,
   simp (product_is c, widened c.ranges.divisor, to_z-of_z (product_fits _ _ c.ranges.number c.ranges.factor))
       (quotient_fits _ _ _ c.ranges.number c.ranges.factor),

@@ -5,11 +5,11 @@ use Rattle.tokens.specs.Tokens.{of}
 use Rattle.tokens.proofs.bytes.run_length.Goals as goal
 
 pub loop-count-preserved : goal.loop-count-preserved
-loop-count-preserved c = let more = prefix_len-drop_yes (of c.args.class) c.args.bytes.now c.loop-count.count 0 c.loop-count-test.true (sym c.if-is-of.ensures) in omega (arith, more)
+loop-count-preserved c = let more = prefix_len-drop_yes (of c.args.class) c.args.bytes.now c.loop-count.count 0 c.loop-count-test.true (sym c.if-is_of.ensures) in omega (arith, more)
 
-pub returns-else-is-of : goal.returns-else-is-of
-returns-else-is-of c =
-    let none = prefix_len-drop_no (of c.args.class) c.args.bytes.now c.loop-count.count 0 c.loop-count-test.true (sym c.if-is-of.ensures) in
+pub returns-else-is_of : goal.returns-else-is_of
+returns-else-is_of c =
+    let none = prefix_len-drop_no (of c.args.class) c.args.bytes.now c.loop-count.count 0 c.loop-count-test.true (sym c.if-is_of.ensures) in
     let most = prefix_len-le-length (of c.args.class) c.args.bytes.now in
     record { is = omega arith; within = omega arith }
 

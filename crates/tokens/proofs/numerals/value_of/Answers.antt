@@ -4,8 +4,8 @@ use Rattle.std.proofs.lemmas.List.{take_all}
 use Rattle.tokens.specs.Tokens.{value}
 use Rattle.tokens.proofs.numerals.value_of.Goals as goal
 
-pub overflow-mul-sum : goal.overflow-mul-sum
-overflow-mul-sum c = let small : c.loop-digit.sum ≤ 16384 = omega arith in omega arith
+pub overflow_mul-sum : goal.overflow_mul-sum
+overflow_mul-sum c = let small : c.loop-digit.sum ≤ 16384 = omega arith in omega arith
 
 pub loop-digit-preserved : goal.loop-digit-preserved
 loop-digit-preserved c =

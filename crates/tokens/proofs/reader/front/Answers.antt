@@ -4,14 +4,14 @@ use Rattle.tokens.specs.Tokens.{sized, numbered, signed}
 use Rattle.tokens.proofs.Fronts.{front_digit, front_sign}
 use Rattle.tokens.proofs.reader.front.Goals as goal
 
-pub returns-then-is-digit : goal.returns-then-is-digit
-returns-then-is-digit c =
-    let n = c.run-length-length-then-is-digit.result in
+pub returns-then-is_digit : goal.returns-then-is_digit
+returns-then-is_digit c =
+    let n = c.run_length-length-then-is_digit.result in
     let whole : n - 0 ≡ n = omega arith in
-    c.of-length-then-is-digit.ensures ∙ ap (sized n) c.number.ensures ∙ ap (λ k. sized n (numbered (take k c.args.bytes.now))) whole ∙ ap (λ k. sized k (numbered (take k c.args.bytes.now))) c.run-length-length-then-is-digit.ensures.is ∙
-    sym (front_digit c.args.bytes.now c.requires (sym c.if-is-letter.ensures) (sym c.if-is-digit.ensures))
+    c.of_length-then-is_digit.ensures ∙ ap (sized n) c.number.ensures ∙ ap (λ k. sized n (numbered (take k c.args.bytes.now))) whole ∙ ap (λ k. sized k (numbered (take k c.args.bytes.now))) c.run_length-length-then-is_digit.ensures.is ∙
+    sym (front_digit c.args.bytes.now c.requires (sym c.if-is_letter.ensures) (sym c.if-is_digit.ensures))
 
-pub returns-else-is-digit : goal.returns-else-is-digit
-returns-else-is-digit c =
+pub returns-else-is_digit : goal.returns-else-is_digit
+returns-else-is_digit c =
     c.sign.ensures ∙ ap (signed (get_or c.args.bytes.now 0 0)) (take_rest c.args.bytes.now 1) ∙
-    sym (front_sign c.args.bytes.now c.requires (sym c.if-is-letter.ensures) (sym c.if-is-digit.ensures))
+    sym (front_sign c.args.bytes.now c.requires (sym c.if-is_letter.ensures) (sym c.if-is_digit.ensures))
