@@ -1,4 +1,6 @@
 // The instructions of the CMa, the words that they are coded as, and why a run stops.
+#![tactic(auto)]
+
 mod set;
 mod stops;
 

@@ -1,4 +1,6 @@
 // Reckonings: what a cell of the machine's store holds, and how cells are added, compared and tested.
+#![tactic(auto)]
+
 mod base;
 mod examples;
 mod in_counts;

@@ -1,5 +1,5 @@
 -- The definition of a text's tokens keeps the words of its reader. Assumes nothing.
-use Rattle.std.proofs.Common.{◌≡◌, ℕ, zero, suc, ◌+◌, ◌-◌, ◌≤◌, min, Bool, true, false, cond, not, ◌&&◌, leb, ◌⊎◌, List, [], ◌∷◌, ◌++◌, length, take, drop, Some, None, Ok, Err, Option, Result, sym, refl, ap, ◌∙◌, subst, subst₂, inl, inr, zero-le, add-zero, arith, take-append-drop}
+use Rattle.std.proofs.Common.{◌≡◌, ℕ, zero, suc, ◌+◌, ◌-◌, ◌≤◌, min, Bool, true, false, cond, not, ◌&&◌, leb, List, [], ◌∷◌, ◌++◌, length, take, drop, Some, None, Ok, Err, Option, Result, sym, refl, ap, ◌∙◌, subst, subst₂, inl, inr, zero-le, add-zero, arith, take-append-drop}
 use Rattle.std.specs.List.{prefix_len, AllByRecursion}
 use Rattle.std.specs.Str.{bytes_eq}
 use Rattle.std.proofs.lemmas.Slice.Eq.{bytes_eq-Decides}
@@ -13,9 +13,9 @@ use Rattle.tokens.specs.declared.fault.Fault.{Fault}
 use Rattle.tokens.specs.declared.lexemes.Word.{Word}
 use Rattle.tokens.specs.declared.lexemes.Sign.{Sign}
 use Rattle.tokens.specs.declared.lexemes.Sign.TheVariants.{OpenRound, CloseRound, OpenCurly, CloseCurly, OpenSquare, CloseSquare, Semicolon, Comma, Becomes, Plus, Minus, Star, Slash, Percent, Less, Greater, Bang, AtMost, AtLeast, Equal, NotEqual}
-use Rattle.tokens.specs.Tokens.{Lexeme, word, sign, name, number, Measured, Piece, gap, letter, inner, digit, word_text, words, sign_text, signs, spelled, kept, single, double, value, needless, named, numbered, sized, short, long, signed, begun, front_of, placed, some_piece, at_place, next, before, counted, from_place, tokens, number_of}
+use Rattle.tokens.specs.Tokens.{Lexeme, name, number, Measured, Piece, gap, letter, inner, digit, word_text, words, sign_text, signs, spelled, kept, single, double, value, needless, named, numbered, sized, short, long, signed, begun, front_of, placed, some_piece, at_place, next, before, counted, from_place, tokens, number_of}
 use Rattle.tokens.proofs.Fronts.{Within, front_within}
-use Rattle.tokens.specs.Laws.{Gaps, NameLike, NumberLike, SignLike, TokenLike, Spells, Longest, Cut, Covers, First, Whole}
+use Rattle.tokens.specs.Laws.{Gaps, NameLike, NumberLike, Spells, Longest, Cut, Covers, First, Whole}
 
 nil_cons : (x : ℕ) (xs : List ℕ) → [] ≡ x ∷ xs → ⊥
 nil_cons x xs e = omega (arith, ap length e)

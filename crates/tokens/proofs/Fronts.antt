@@ -1,13 +1,13 @@
 -- What the front of some bytes is, by its first byte, and how long. Assumes nothing.
-use Rattle.std.proofs.Common.{◌≡◌, ℕ, ◌+◌, ◌<◌, ◌≤◌, Bool, true, false, eqb, List, [], ◌∷◌, length, get_or, drop, Some, None, Ok, Err, Option, Result, sym, refl, ap, ◌∙◌, subst, ap₂, arith}
+use Rattle.std.proofs.Common.{◌≡◌, ℕ, ◌+◌, ◌<◌, ◌≤◌, Bool, true, false, eqb, List, [], ◌∷◌, length, get_or, drop, Some, None, Ok, Err, Option, Result, sym, refl, ap, ◌∙◌, ap₂, arith}
 use Rattle.std.specs.List.{prefix_len}
 use Rattle.std.proofs.lemmas.List.Sums.{prefix_len-le-length}
 use Rattle.std.proofs.lemmas.List.{nil_from_length}
 use Rattle.std.proofs.lemmas.Bool.{cond-true, or_left, eqb-true, true≢false}
-use Rattle.tokens.specs.declared.bytes.Class.TheVariants.{Inner, Digit}
+use Rattle.tokens.specs.declared.bytes.Class.TheVariants.{Digit}
 use Rattle.tokens.specs.declared.fault.Cause.{Cause}
 use Rattle.tokens.specs.declared.lexemes.Sign.{Sign}
-use Rattle.tokens.specs.Tokens.{Lexeme, Measured, letter, digit, inner, run, kept, sized, named, numbered, single, double, short, long, signed, begun, front_of, gap, at_place, some_piece, placed, next}
+use Rattle.tokens.specs.Tokens.{Lexeme, Measured, letter, digit, inner, run, sized, numbered, single, double, short, long, signed, begun, front_of, gap, at_place, some_piece, placed, next}
 
 pub front_digit : (bs : List ℕ) → 0 < length bs → letter (get_or bs 0 0) ≡ false → digit (get_or bs 0 0) ≡ true → front_of bs ≡ sized (prefix_len digit bs) (numbered (run Digit bs))
 front_digit [] h e g = absurd (omega arith)

@@ -1,4 +1,6 @@
 // The reader of a rule's text: kept words, signs, names and numbers, each with its place.
+#![tactic(auto)]
+
 mod bytes;
 mod examples;
 mod fault;

@@ -1,12 +1,12 @@
 -- Digits read with a cap. Assumes nothing.
-use Rattle.std.proofs.Common.{◌≡◌, ℕ, ◌+◌, ◌-◌, ◌*◌, ◌<◌, ◌≤◌, min, Bool, true, false, cond, List, [], ◌∷◌, length, get_or, take, drop, ℤ, pos, negsuc, Some, None, Ok, Option, sym, refl, ap, ◌∙◌, subst, true≢false, arith, w64, SFits, eq-eqb, leb-true}
+use Rattle.std.proofs.Common.{◌≡◌, ℕ, ◌+◌, ◌-◌, ◌*◌, ◌<◌, ◌≤◌, Bool, true, false, List, [], ◌∷◌, length, get_or, take, drop, ℤ, pos, negsuc, Some, None, Ok, Option, sym, refl, ap, ◌∙◌, subst, true≢false, arith, w64, SFits, eq-eqb, leb-true}
 use lib.Signed.{le_z, lt_z}
 use mir.Syntax.{w128}
 use Rattle.std.proofs.lemmas.Int.{ints}
 use Rattle.std.proofs.lemmas.Bool.Decides.{nat_tests}
 use Rattle.std.specs.Option.{option_map}
 use Rattle.std.proofs.lemmas.List.{drop_more, drop_all, take_rest}
-use Rattle.wording.specs.Numerals.{digit, digits_after, digits, minus, unsigned, signed, read_within}
+use Rattle.wording.specs.Numerals.{digit, digits_after, minus, unsigned, signed, read_within}
 use Rattle.wording.specs.Caps.{cap, capped}
 
 cap_more : (m n d : ℕ) → cap m ≡ cap n → cap (10 * m + d) ≡ cap (10 * n + d)

@@ -1,7 +1,6 @@
 -- Numbers in decimal digits: what a word stands for, and how a number is written. Assumes nothing.
 use Rattle.std.specs.Prelude.{ℕ, ◌+◌, ◌-◌, ◌*◌, ◌/◌, ◌%◌, Bool, false, cond, ◌&&◌, List, [], ◌∷◌, ◌++◌, ℤ, pos, negsuc, neg_ℤ, Some, None, Ok, Err, decimal, Option, Result, ◌==◌, int_le, nat_le, nat_lt}
 use Rattle.std.specs.Option.{option_map}
-use Rattle.std.specs.Fmt.{sign_text}
 use Rattle.wording.specs.declared.numerals.Misread.{Misread}
 use Rattle.wording.specs.declared.numerals.Misread.TheVariants.{NotANumber, OutOfRange}
 use Rattle.wording.specs.Pieces.{cut}

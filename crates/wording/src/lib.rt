@@ -1,4 +1,6 @@
 // Lines, words and numbers in text, as bytes.
+#![tactic(auto)]
+
 mod numerals;
 mod pieces;
 

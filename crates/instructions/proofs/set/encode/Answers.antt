@@ -1,7 +1,7 @@
 use Rattle.std.proofs.Common.{◌≡◌, ◌+◌, ◌*◌, true, ◌&&◌, pos, negsuc, Some, sym, ap, ◌∙◌, arith, w32, SFits, rules}
 use lib.Signed.{le_z}
 use Rattle.std.proofs.lemmas.Int.{to_z-of_z, ints}
-use Rattle.instructions.specs.Words.{operand, number, low_bits, encoded}
+use Rattle.instructions.specs.Words.{number, low_bits, encoded}
 use Rattle.instructions.proofs.RoundTrip.{encoded_is, instruction_back}
 use Rattle.instructions.proofs.set.encode.Goals as goal
 

@@ -1,7 +1,7 @@
-use Rattle.std.proofs.Common.{◌/◌, ◌≤◌, length, sym, ap, arith}
+use Rattle.std.proofs.Common.{◌/◌, ◌≤◌, sym, ap, arith}
 use Rattle.std.specs.Option.{option_map}
 use Rattle.std.proofs.lemmas.Option.{slice_get_past}
-use Rattle.instructions.specs.Words.{table, signed}
+use Rattle.instructions.specs.Words.{table}
 use Rattle.instructions.proofs.set.instruction_of.Goals as goal
 
 pub returns-in_default : goal.returns-in_default

@@ -1,4 +1,4 @@
-use Rattle.std.proofs.Common.{◌≡◌, ◌*ℤ◌, ◌∙◌, to_z-of_z, rules}
+use Rattle.std.proofs.Common.{◌≡◌, ◌*ℤ◌, to_z-of_z, rules}
 use Rattle.reckoning.proofs.Products.{widened, product_fits, quotient_fits}
 use Rattle.reckoning.proofs.wide.scaled.Goals as goal
 

@@ -8,8 +8,8 @@ loop-i-init g c = ap (λ b. b ++ row g.N.Notation.writes c.args.cells.now) c.new
 
 pub loop-i-preserved : goal.loop-i-preserved
 loop-i-preserved g c =
-    row_more g.N.Notation.writes c.args.cells.now c.loop-i.i c.index-cells-i.result _ (string_bytes c.loop-i.line) c.as-str.result.now (string_bytes c.push-str.new.self) c.separator.result.now (string_bytes c.push-str-in-loop-i.new.self)
-    c.loop-i-test.true c.index-cells-i.is (c.as-str.ensures.value ∙ c.in-ok-text.ensures) c.in-ok-push-str.ensures.bytes refl c.separator.ensures c.in-ok-push-str-2.ensures.bytes c.loop-i.invariant
+    row_more g.N.Notation.writes c.args.cells.now c.loop-i.i c.index-cells-i.result _ (string_bytes c.loop-i.line) c.as_str.result.now (string_bytes c.push_str.new.self) c.separator.result.now (string_bytes c.push_str-in-loop-i.new.self)
+    c.loop-i-test.true c.index-cells-i.is (c.as_str.ensures.value ∙ c.in_ok-text.ensures) c.in_ok-push_str.ensures.bytes refl c.separator.ensures c.in_ok-push_str-2.ensures.bytes c.loop-i.invariant
 
 pub returns : goal.returns
 returns g c = row_all g.N.Notation.writes c.args.cells.now c.loop-i.i (string_bytes c.loop-i.line) c.loop-i-test.false c.loop-i.invariant

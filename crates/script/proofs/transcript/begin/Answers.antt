@@ -36,7 +36,7 @@ returns-in-Err c =
 pub returns : goal.returns
 returns c =
     record {
-      is = ap (λ k. Err (fault k NoReckoning)) c.max.ensures ∙ ap (begun c.loop-line.done) (sym c.in-default.ensures.is) ∙ c.loop-line.invariant.1;
+      is = ap (λ k. Err (fault k NoReckoning)) c.max.ensures ∙ ap (begun c.loop-line.done) (sym c.in_default.ensures.is) ∙ c.loop-line.invariant.1;
       from_one = omega (arith, c.max.ensures);
       fits = tt;
     }

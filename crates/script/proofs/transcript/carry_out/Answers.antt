@@ -12,7 +12,7 @@ pub loop-line-preserved : goal.loop-line-preserved
 loop-line-preserved g c = (
   omega (arith, c.loop-line.invariant.0, c.in-Some.ensures.shorter),
   omega arith,
-  step_on g.N.Reckoning.meaning g.N.Notation.reads g.N.Notation.writes c.loop-line.done (lines c.loop-line.rest.now) c.in-Some.line.now (lines c.in-Some.after.now) (state c.loop-line.session) (state c.step.new.session) c.in-default-step.field-0 c.in-Some.ensures.is c.in-default-step.ensures ∙ c.loop-line.invariant.2,
+  step_on g.N.Reckoning.meaning g.N.Notation.reads g.N.Notation.writes c.loop-line.done (lines c.loop-line.rest.now) c.in-Some.line.now (lines c.in-Some.after.now) (state c.loop-line.session) (state c.step.new.session) c.in_default-step.field-0 c.in-Some.ensures.is c.in_default-step.ensures ∙ c.loop-line.invariant.2,
 )
 
 pub loop-line-smaller : goal.loop-line-smaller
@@ -31,6 +31,6 @@ returns g c = record {
   from_one = c.conclude.ensures.from_one;
   meets =
       meets_at (string_bytes c.conclude.new.session.output) c.conclude.result _ _
-      (ap (λ ls. carried g.N.Reckoning.meaning g.N.Notation.reads g.N.Notation.writes c.loop-line.done ls (state c.loop-line.session)) (sym c.in-default.ensures.is) ∙ c.loop-line.invariant.2)
+      (ap (λ ls. carried g.N.Reckoning.meaning g.N.Notation.reads g.N.Notation.writes c.loop-line.done ls (state c.loop-line.session)) (sym c.in_default.ensures.is) ∙ c.loop-line.invariant.2)
       c.conclude.ensures.meets;
 }

@@ -3,13 +3,13 @@ use Rattle.wording.specs.Pieces.{lines}
 use Rattle.script.specs.Scripts.{begun, answered, performed, Meets}
 use Rattle.script.proofs.transcript.perform.Goals as goal
 
-pub carry-out-in-requires : goal.carry-out-in-requires
-carry-out-in-requires c = record { from_one = c.in-Ok.ensures.from_one; fits = omega (arith, c.in-Ok.ensures.fits, c.as-bytes.ensures.len, c.well-formed) }
+pub carry_out_in-requires : goal.carry_out_in-requires
+carry_out_in-requires c = record { from_one = c.in-Ok.ensures.from_one; fits = omega (arith, c.in-Ok.ensures.fits, c.as_bytes.ensures.len, c.well_formed) }
 
 pub returns-in-Ok : goal.returns-in-Ok
 unfolding performed
-returns-in-Ok c = record { from_one = c.carry-out-in.ensures.from_one; meets = subst (λ d. Meets (string_bytes c.carry-out-in.result.output) c.carry-out-in.result.fault (answered d)) (c.in-Ok.ensures.is ∙ ap (λ t. begun 0 (lines t)) c.as-bytes.ensures.value) c.carry-out-in.ensures.meets }
+returns-in-Ok c = record { from_one = c.carry_out_in.ensures.from_one; meets = subst (λ d. Meets (string_bytes c.carry_out_in.result.output) c.carry_out_in.result.fault (answered d)) (c.in-Ok.ensures.is ∙ ap (λ t. begun 0 (lines t)) c.as_bytes.ensures.value) c.carry_out_in.ensures.meets }
 
 pub returns-in-Err : goal.returns-in-Err
 unfolding performed
-returns-in-Err c = record { from_one = c.in-Err.ensures.from_one; meets = inl (ap (λ b. (b, Some c.in-Err.fault)) c.new.ensures.bytes ∙ ap answered (c.in-Err.ensures.is ∙ ap (λ t. begun 0 (lines t)) c.as-bytes.ensures.value)) }
+returns-in-Err c = record { from_one = c.in-Err.ensures.from_one; meets = inl (ap (λ b. (b, Some c.in-Err.fault)) c.new.ensures.bytes ∙ ap answered (c.in-Err.ensures.is ∙ ap (λ t. begun 0 (lines t)) c.as_bytes.ensures.value)) }

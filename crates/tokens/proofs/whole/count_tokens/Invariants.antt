@@ -1,4 +1,4 @@
-use Rattle.std.proofs.Common.{◌≡◌, ◌-◌, ◌≤◌, min, length}
+use Rattle.std.proofs.Common.{◌≡◌, ◌-◌, ◌≤◌, length}
 use Rattle.tokens.specs.Tokens.{tokens, number_of}
 use Rattle.tokens.proofs.Turns.{added, onward}
 use Rattle.tokens.proofs.whole.count_tokens.Given as goal

@@ -1,4 +1,4 @@
-use Rattle.std.proofs.Common.{arith, rules}
+use Rattle.std.proofs.Common.{rules}
 use Rattle.wording.proofs.Counting.{more_digits, no_digit, all_digits}
 use Rattle.wording.proofs.numerals.digits.Goals as goal
 

@@ -1,9 +1,7 @@
-use Rattle.std.proofs.Common.{◌≡◌, ◌<◌, true, false, Ok, sym, ap, ◌∙◌, subst, arith, w64, SFits, to_z, of_z, rules}
-use lib.Signed.{le_z, lt_z, mag}
+use Rattle.std.proofs.Common.{◌≡◌, true, Ok, sym, ap, ◌∙◌, w64, SFits}
+use lib.Signed.{le_z}
 use mir.Syntax.{w128}
-use Rattle.std.proofs.lemmas.Int.{ints, to_z-of_z}
-use Rattle.std.proofs.lemmas.Bool.Decides.{nat_tests}
-use Rattle.wording.specs.Numerals.{signed, read_within}
+use Rattle.std.proofs.lemmas.Int.{to_z-of_z}
 use Rattle.wording.proofs.Counting.{in_range, widened, not_below, narrowed}
 use Rattle.wording.proofs.numerals.within.Goals as goal
 

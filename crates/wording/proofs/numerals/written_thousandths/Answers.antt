@@ -1,4 +1,4 @@
-use Rattle.std.proofs.Common.{rules, arith, w32, SFits, ap}
+use Rattle.std.proofs.Common.{rules, w32, SFits, ap}
 use Rattle.std.proofs.lemmas.Int.{to_z-of_z}
 use Rattle.wording.proofs.Written.{IfOk-text, written_below_zero, written_from_zero}
 use Rattle.wording.proofs.numerals.written_thousandths.Goals as goal

@@ -1,7 +1,7 @@
-use Rattle.std.proofs.Common.{sym, ap, ◌∙◌, arith, rules}
+use Rattle.std.proofs.Common.{sym, ap, ◌∙◌, arith}
 use Rattle.std.proofs.lemmas.Bool.{not-true, not-false}
 use Rattle.wording.specs.Fronts.{like}
-use Rattle.wording.proofs.Spans.{more_so_far, found, all_front, front_fits}
+use Rattle.wording.proofs.Spans.{more_so_far, found, all_front}
 use Rattle.wording.proofs.pieces.front.Goals as goal
 
 pub returns-then-is_white-white : goal.returns-then-is_white-white
