@@ -1,5 +1,5 @@
 -- From a run to the answer of a call, and from what a run tells to what an answer says. Assumes nothing.
-use Rattle.std.proofs.Common.{◌≡◌, ℕ, zero, suc, ◌+◌, ◌-◌, ◌<◌, ◌≤◌, Bool, true, false, cond, ◌&&◌, List, [], ◌∷◌, length, get_or, Some, None, Option, sym, refl, ap, ◌∙◌, subst, arith, le-leb}
+use Rattle.std.proofs.Common.{◌≡◌, ℕ, zero, suc, ◌+◌, ◌-◌, ◌<◌, ◌≤◌, Bool, true, false, cond, ◌&&◌, List, [], ◌∷◌, length, get_or, Some, None, Option, sym, ap, ◌∙◌, subst, arith, le-leb}
 use Rattle.std.specs.List.{slice_get}
 use Rattle.std.proofs.lemmas.List.{get_or_read}
 use Rattle.reckoning.specs.Meaning.{Meaning, Laws, largest}
@@ -10,12 +10,12 @@ use Rattle.machine.specs.Instructions.{State}
 use Rattle.machine.specs.Runs.{run}
 use Rattle.language.specs.Reading.{Outcome, gives, stops, reading}
 use Rattle.language.proofs.Resolution.{cells_kept, parameters_few}
-use Rattle.translation.specs.Translation.{code, starts}
+use Rattle.translation.specs.Translation.{starts}
 use Rattle.meaning.specs.Agreement.{cells, started, Tells}
 use Rattle.meaning.proofs.Loading.{starts_small, all_nth}
 use Rattle.meaning.proofs.Theorem.{agreement}
 use Rattle.calling.specs.declared.calls.Answer.{Answer}
-use Rattle.calling.specs.declared.calls.Answer.TheVariants.{Value, Stopped}
+use Rattle.calling.specs.declared.calls.Answer.TheVariants.{Value}
 use Rattle.calling.specs.Calls.{room, addressed, answered, begun, concluded, called, Answers, Agrees}
 
 nth_is : {X : Type 0} (xs : List X) (i : ℕ) (x d : X) → slice_get xs i ≡ Some x → get_or xs i d ≡ x

@@ -1,4 +1,6 @@
 // Carries out each script of the list, and compares what it prints, and its fault, with what is expected.
+#![tactic(auto)]
+
 use script::perform;
 use std::alloc::Global;
 use std::fmt::Write;

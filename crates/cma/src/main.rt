@@ -1,6 +1,9 @@
 // Runs a script of listings on standard input, and prints what its runs come to.
+#![tactic(auto)]
+
 use script::{Fault, perform};
 use std::io::ErrorKind;
+use std::process::ExitCode;
 use std::{fmt, io};
 
 // Why a script is not carried out to its end.
@@ -45,10 +48,12 @@ fn carry_out(rt: &HostRuntime) -> Result<(), Failure> {
     }
 }
 
-fn main(rt: HostRuntime) -> Result<(), Failure> {
-    let outcome = carry_out(&rt);
-    if let Err(failure) = &outcome {
-        let _ = eprintln!(rt; "cma: {failure}");
+fn main(rt: HostRuntime) -> ExitCode {
+    match carry_out(&rt) {
+        Ok(()) => ExitCode::SUCCESS,
+        Err(failure) => {
+            let _ = eprintln!(rt; "cma: {failure}");
+            ExitCode::FAILURE
+        }
     }
-    outcome
 }

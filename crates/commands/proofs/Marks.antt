@@ -1,5 +1,5 @@
 -- Words that begin with a mark. Assumes nothing.
-use Rattle.std.proofs.Common.{◌≡◌, ℕ, ◌-◌, ◌<◌, List, [], ◌∷◌, length, get_or, take, drop, Some, sym, refl, ap, ◌∙◌, arith, eq-eqb}
+use Rattle.std.proofs.Common.{◌≡◌, ℕ, ◌-◌, ◌<◌, List, [], ◌∷◌, length, get_or, take, drop, Some, ap, arith, eq-eqb}
 use Rattle.std.proofs.lemmas.List.{take_rest}
 use Rattle.commands.specs.Listings.{after_at}
 

@@ -1,4 +1,6 @@
 // The lines of a script: which command each is, and what is wrong with one that is none.
+#![tactic(auto)]
+
 mod cause;
 mod listing;
 mod reading;

@@ -1,4 +1,6 @@
 // The grammar of sheets: which lists of tokens are sheets, with which tree, and where any other is refused.
+#![tactic(auto)]
+
 ghost use Rattle.std.specs.Prelude.{◌≡◌, length};
 ghost use Rattle.grammar.specs.Examples.{examples, Agree};
 ghost use Rattle.grammar.specs.Laws.{GrammarLaws};

@@ -5,7 +5,7 @@ use Rattle.std.proofs.ByRecursion.{All-append, All-weaker}
 use Rattle.std.proofs.lemmas.Bool.{leb-true, eqb-true}
 use Rattle.reckoning.specs.Meaning.{largest}
 use Rattle.language.specs.Tree.{Name, minus, bang, Expr, number, variable, call, unary, binary, assign, brackets, Indices, plain, index, Args, no_args, argument, Stmt, expr, block, return, if_then, if_else, while, for, Stmts, end, then, Variable, Function, Sheet}
-use Rattle.language.specs.Resolved.{Region, on_sheet, in_frame, Expression, value, assignment, invocation, Subscripts, Arguments, arity, Statements, Routine, Program}
+use Rattle.language.specs.Resolved.{Region, on_sheet, in_frame, Expression, Subscripts, arity, Statements, Routine, Program}
 use Rattle.language.specs.Scope.{same, cells_of, total, Slot, find, find_function, Thing, variable_at, function_at, own, ◌>>=◌, as_variable, as_function, looked_up, slot_of, count, function_of, expression, target, subscripts, arguments, statement, statements, routine, routines, resolved}
 use Rattle.language.specs.Limits.{Sized, Positive, Plain, Within, Limited}
 use Rattle.language.specs.Scoping.{Goes, Element, Reads, Assigns, Calls}

@@ -1,11 +1,11 @@
 -- A reading stops only as a rule can. Assumes nothing.
-use Rattle.std.proofs.Common.{ℕ, zero, suc, ◌+◌, ◌*◌, Bool, true, false, cond, ltb, leb, List, [], ◌∷◌, ◌++◌, replicate, Some, None, Ok, Err, Option, Result, unwrap_or}
+use Rattle.std.proofs.Common.{ℕ, zero, suc, ◌+◌, ◌*◌, Bool, true, false, cond, ltb, leb, List, [], ◌++◌, replicate, Some, None, Ok, Err, Option, Result}
 use Rattle.std.specs.List.{slice_get}
 use Rattle.reckoning.specs.Meaning.{Meaning, applied}
 use Rattle.reckoning.specs.declared.Stop.{Stop as ReckoningStop}
 use Rattle.instructions.specs.declared.Stop.TheVariants.{Index, Depth}
 use Rattle.language.specs.Resolved.{Expression, constant, value, assignment, invocation, negation, inversion, operation, Subscripts, whole_of, subscript, Arguments, none, also, Statement, perform, sequence, give, when, either, repeat, Statements, finish, first, Routine}
-use Rattle.language.specs.Reading.{Memory, Outcome, gives, stops, Reads, follow, pure, stop, with_frame, reckon, within, pay, spend, admit, back_in, unless_returned, Level, read_expression, read_subscripts, read_arguments, tested, read_statement, read_statements, read_routine, read_numbered, level}
+use Rattle.language.specs.Reading.{Memory, Outcome, gives, stops, Reads, follow, pure, stop, with_frame, reckon, within, pay, spend, admit, back_in, unless_returned, Level, read_expression, read_subscripts, read_arguments, tested, read_statement, read_statements, read_numbered, level}
 use Rattle.language.specs.Stopping.{Clean, StopsSo}
 
 module _ {Cell : Type 0} where

@@ -1,12 +1,12 @@
 -- The reading: what a sheet means, said on its tree, without any code. Assumes nothing.
-use Rattle.std.specs.Prelude.{ℕ, zero, suc, ◌+◌, ◌-◌, ◌*◌, Bool, true, false, cond, List, [], ◌∷◌, ◌++◌, length, replicate, Some, None, Ok, Err, Option, Result, nat_le, nat_lt, slice_index_or, slice_set}
+use Rattle.std.specs.Prelude.{ℕ, zero, suc, ◌+◌, ◌*◌, Bool, cond, List, [], ◌∷◌, ◌++◌, replicate, Some, None, Ok, Err, Option, Result, nat_le, nat_lt, slice_index_or, slice_set}
 use Rattle.std.specs.Option.{unwrap_or}
 use Rattle.std.specs.List.{slice_get}
 use Rattle.reckoning.specs.declared.Stop.{Stop as ReckoningStop}
 use Rattle.reckoning.specs.Meaning.{Meaning, applied}
 use Rattle.instructions.specs.declared.Stop.{Stop}
 use Rattle.instructions.specs.declared.Stop.TheVariants.{Index, Budget, Depth, Reckoned}
-use Rattle.language.specs.Resolved.{Region, on_sheet, in_frame, Expression, constant, value, assignment, invocation, negation, inversion, operation, Subscripts, whole_of, subscript, Arguments, none, also, Statement, perform, sequence, give, when, either, repeat, Statements, finish, first, Routine, Program}
+use Rattle.language.specs.Resolved.{Region, on_sheet, in_frame, Expression, constant, value, assignment, invocation, negation, inversion, operation, Subscripts, whole_of, subscript, Arguments, none, also, Statement, perform, sequence, give, when, either, repeat, Statements, finish, first, Routine}
 
 -- What a reading knows: the sheet's cells, those of the active function (parameters, then its own variables), and the units of budget left.
 pub record Memory (Cell : Type 0) : Type 0 where

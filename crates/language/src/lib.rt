@@ -1,4 +1,6 @@
 // The language of sheets: trees, what their names stand for, and what they mean.
+#![tactic(auto)]
+
 mod laws;
 mod scope;
 

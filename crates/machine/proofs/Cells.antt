@@ -1,16 +1,15 @@
 -- Cells of the store at signed addresses. Assumes nothing.
-use Rattle.std.proofs.Common.{◌≡◌, ℕ, zero, suc, ◌+◌, ◌<◌, ◌≤◌, true, false, cond, eqb, ltb, leb, ◌≢◌, ◌⊎◌, List, [], length, get_or, set, ℤ, pos, negsuc, ◌+ℤ◌, ◌-ℤ◌, nat_abs, Some, None, Ok, Err, Result, sym, refl, ap, ◌∙◌, inl, inr, ⊎_elim, arith, length-set, get_or-set_other, get_or-set_same, le-ltb, lt-ltb, le-leb}
+use Rattle.std.proofs.Common.{◌≡◌, ℕ, ◌+◌, ◌<◌, ◌≤◌, true, false, ltb, ◌≢◌, ◌⊎◌, List, length, get_or, set, ℤ, pos, negsuc, ◌+ℤ◌, ◌-ℤ◌, nat_abs, Some, Ok, Err, sym, refl, ap, ◌∙◌, inl, inr, ⊎_elim, arith, length-set, get_or-set_other, get_or-set_same, le-ltb, lt-ltb, le-leb}
 use borrow.Author.Tests.{apart_eqb}
 use lib.Signed.{le_z}
 use Rattle.std.specs.Option.{ok_or}
-use Rattle.std.specs.List.{slice_get}
 use Rattle.std.proofs.lemmas.Option.{slice_get_read, slice_get_past, slice_get-get_or}
 use Rattle.std.proofs.lemmas.Int.{ints}
 use Rattle.std.proofs.str.Laws.{order}
 use Rattle.reckoning.specs.Meaning.{Meaning}
 use Rattle.instructions.specs.declared.Stop.{Stop}
 use Rattle.instructions.specs.declared.Stop.TheVariants.{Broken}
-use Rattle.machine.specs.Instructions.{whole, cell, put, read_after, ◌>>=◌, natural, tops, pushed, cleared, clear}
+use Rattle.machine.specs.Instructions.{whole, cell, read_after, natural, tops, cleared, clear}
 use Rattle.machine.specs.Seen.{after}
 
 -- the cell of a number, if it is one that every reckoning has a cell for

@@ -1,5 +1,5 @@
 -- A run is the chain of its steps. Assumes nothing.
-use Rattle.std.proofs.Common.{◌≡◌, ℕ, zero, suc, ◌+◌, ◌<◌, ◌≤◌, List, Some, None, Ok, Err, Option, Result, unwrap_or, sym, refl, ap, ◌∙◌, subst, le_refl, arith}
+use Rattle.std.proofs.Common.{◌≡◌, ℕ, zero, suc, ◌+◌, ◌≤◌, List, Some, Ok, Err, Result, unwrap_or, sym, refl, ap, ◌∙◌, subst, le_refl, arith}
 use Rattle.reckoning.specs.Meaning.{Meaning}
 use Rattle.machine.specs.declared.state.Ending.{Ending}
 use Rattle.machine.specs.declared.state.Ending.TheVariants.{Halted}

@@ -1,11 +1,10 @@
 -- What an instruction comes to once none of its parts stops. Assumes nothing.
-use Rattle.std.proofs.Common.{◌≡◌, ℕ, ◌+◌, ◌-◌, ◌/◌, ◌%◌, ◌<◌, ◌≤◌, Bool, true, false, cond, List, length, set, ℤ, pos, ◌+ℤ◌, ◌-ℤ◌, Some, None, Ok, Err, Option, Result, sym, refl, ap, ◌∙◌, arith, lt-ltb}
+use Rattle.std.proofs.Common.{◌≡◌, ℕ, ◌+◌, ◌-◌, ◌/◌, ◌%◌, ◌≤◌, Bool, true, false, cond, List, length, set, ℤ, pos, ◌+ℤ◌, ◌-ℤ◌, Some, None, Ok, Err, Option, Result, sym, refl, ap, ◌∙◌, arith, lt-ltb}
 use Rattle.reckoning.specs.declared.Operator.{Operator}
 use Rattle.reckoning.specs.declared.Stop.{Stop as ReckoningStop}
 use Rattle.reckoning.specs.Meaning.{Meaning, applied}
 use Rattle.instructions.specs.declared.Stop.{Stop}
 use Rattle.instructions.specs.Words.{signed}
-use Rattle.machine.specs.declared.state.Flow.{Flow}
 use Rattle.machine.specs.declared.state.Flow.TheVariants.{Onward, Halts}
 use Rattle.machine.specs.declared.state.Registers.{Registers}
 use Rattle.machine.specs.Instructions.{State, ◌>>=◌, register, cell, put, natural, read_after, tops, reckoned, with_pc, with_sp, with_budget, toll, jump, admitted, three, whole, address, store_top, binary, branch, mark, link, call}

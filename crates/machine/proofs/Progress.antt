@@ -1,8 +1,7 @@
 -- How far one step brings a run. Assumes nothing.
-use Rattle.std.proofs.Common.{◌≡◌, ℕ, zero, suc, ◌+◌, ◌-◌, ◌*◌, ◌<◌, ◌≤◌, Bool, true, false, cond, ◌&&◌, leb, List, length, ℤ, pos, negsuc, ◌+ℤ◌, ◌-ℤ◌, ◌≤ℤ◌, Some, None, Ok, Err, Option, Result, sym, refl, ap, ◌∙◌, subst, ⊎_elim, mul-le-mul_right, suc-mul, arith}
+use Rattle.std.proofs.Common.{◌≡◌, ℕ, zero, suc, ◌+◌, ◌-◌, ◌*◌, ◌<◌, ◌≤◌, Bool, true, false, cond, ◌&&◌, leb, List, length, ℤ, pos, negsuc, ◌+ℤ◌, ◌-ℤ◌, ◌≤ℤ◌, Some, None, Ok, Err, Option, Result, sym, refl, ap, subst, ⊎_elim, mul-le-mul_right, suc-mul, arith}
 use lib.Signed.{le_z, lt_z}
 use Rattle.std.specs.Option.{ok_or}
-use Rattle.std.specs.List.{slice_get}
 use Rattle.std.proofs.lemmas.Option.{slice_get_past as nth_past}
 use Rattle.std.proofs.lemmas.Int.{ints}
 use Rattle.std.proofs.str.Laws.{order}
@@ -10,11 +9,10 @@ use Rattle.reckoning.specs.declared.Operator.{Operator}
 use Rattle.reckoning.specs.Meaning.{Meaning, applied}
 use Rattle.instructions.specs.declared.Instruction.{Instruction}
 use Rattle.instructions.specs.declared.Instruction.TheVariants.{Halt, LoadConstant, LoadRelative, Load, Store, Pop, Operate, Negate, Not, Jump, JumpZero, Mark, Call, Enter, Allocate, Return, Check}
-use Rattle.machine.specs.declared.state.Ending.{Ending}
 use Rattle.machine.specs.declared.state.Registers.{Registers}
 use Rattle.instructions.specs.declared.Stop.{Stop}
 use Rattle.instructions.specs.declared.Stop.TheVariants.{Broken, Depth, Cells}
-use Rattle.machine.specs.Instructions.{State, ◌>>=◌, register, cell, put, reckoned, spent, fewer, natural, clear, three, index, read_after, admitted, toll, tops, pushed, with_pc, with_sp, with_ep, with_budget, whole, address, saved, push, relative, load, store_top, pop, binary, negate, invert, jump, branch, mark, link, call, enter, allocate, leave, check}
+use Rattle.machine.specs.Instructions.{State, ◌>>=◌, register, cell, put, reckoned, spent, fewer, clear, three, index, read_after, admitted, toll, tops, pushed, with_pc, with_sp, with_ep, with_budget, whole, address, saved, push, relative, load, store_top, pop, binary, negate, invert, jump, branch, mark, link, call, enter, allocate, leave, check}
 use Rattle.machine.specs.Runs.{charge, charged, price, address_of, enough}
 use Rattle.instructions.specs.Words.{decoded}
 use Rattle.machine.specs.Steps.{fetched, beside, goes, keeps, execute, act, outcome, step}

@@ -1,5 +1,5 @@
 -- What a caller sees of a call that changes something in place or stops: its answer, and the thing, which a stop leaves as it was. Assumes nothing.
-use Rattle.std.specs.Prelude.{List, Some, None, Ok, Err, Option, Result}
+use Rattle.std.specs.Prelude.{Some, None, Ok, Err, Option, Result}
 use Rattle.machine.specs.declared.state.Ending.{Ending}
 use Rattle.machine.specs.declared.state.Flow.{Flow}
 use Rattle.machine.specs.declared.state.Flow.TheVariants.{Onward, Halts}

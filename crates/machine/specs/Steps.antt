@@ -1,5 +1,5 @@
 -- One step of the machine, and a run. Assumes nothing.
-use Rattle.std.specs.Prelude.{ℕ, ◌/◌, ◌%◌, List, length, ℤ, pos, negsuc, ◌+ℤ◌, Some, None, Ok, Err, Option, Result}
+use Rattle.std.specs.Prelude.{ℕ, ◌/◌, ◌%◌, List, ℤ, pos, negsuc, ◌+ℤ◌, Some, None, Ok, Err, Option, Result}
 use Rattle.std.specs.Option.{ok_or, unwrap_or, option_map}
 use Rattle.std.specs.List.{slice_get}
 use Rattle.reckoning.specs.Meaning.{Meaning}

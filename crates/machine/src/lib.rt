@@ -1,4 +1,6 @@
 // The CMa: a stack machine for C, over a store of cells that a reckoning gives their meaning.
+#![tactic(auto)]
+
 mod cycle;
 mod effects;
 mod memory;

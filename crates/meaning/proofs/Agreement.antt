@@ -1,30 +1,25 @@
 -- The code of a sheet does what its reading says. Assumes nothing.
-use Rattle.std.proofs.Common.{◌≡◌, ℕ, zero, suc, ◌+◌, ◌-◌, ◌*◌, ◌<◌, ◌≤◌, max, Bool, true, false, cond, ◌&&◌, ltb, leb, List, [], ◌∷◌, ◌++◌, length, get_or, take, drop, set, replicate, ℤ, pos, negsuc, ◌+ℤ◌, Some, None, Ok, Err, Option, Result, unwrap_or, sym, refl, ap, ◌∙◌, subst, add-zero, arith}
-use Rattle.std.specs.Option.{ok_or, option_map}
+use Rattle.std.proofs.Common.{◌≡◌, ℕ, zero, suc, ◌+◌, ◌-◌, ◌*◌, ◌<◌, ◌≤◌, Bool, true, false, cond, ltb, leb, List, [], ◌∷◌, ◌++◌, length, get_or, take, drop, set, replicate, ℤ, pos, negsuc, ◌+ℤ◌, Some, None, Ok, Err, Option, Result, unwrap_or, sym, refl, ap, ◌∙◌, subst, add-zero, arith}
 use Rattle.std.specs.List.{slice_get}
-use Rattle.std.proofs.lemmas.List.{length-set, length-drop, length-replicate, length-append, append_assoc, append-nil, length_push, take_at}
+use Rattle.std.proofs.lemmas.List.{length-set, length-drop, length-replicate, length-append, append_assoc, append-nil, length_push}
 use Rattle.std.proofs.lemmas.Option.{slice_get-get_or}
-use Rattle.std.proofs.lemmas.Bool.{ltb-true, ltb-false, leb-true, leb-false}
+use Rattle.std.proofs.lemmas.Bool.{ltb-true, ltb-false, leb-false}
 use Rattle.std.proofs.lemmas.Int.{ints}
 use Rattle.reckoning.specs.Meaning.{Meaning, Laws, applied, largest}
 use Rattle.reckoning.specs.declared.Operator.{Operator}
 use Rattle.reckoning.specs.declared.Operator.TheVariants.{Add, Multiply}
 use Rattle.reckoning.specs.declared.Stop.{Stop as ReckoningStop}
-use Rattle.instructions.specs.declared.Instruction.{Instruction}
 use Rattle.instructions.specs.declared.Instruction.TheVariants.{LoadConstant, LoadRelative, Load, Store, Pop, Operate, Negate, Not, Jump, JumpZero, Mark, Call, Enter, Allocate, Return, Check}
 use Rattle.instructions.specs.declared.Stop.{Stop}
-use Rattle.instructions.specs.declared.Stop.TheVariants.{Broken, Index, Budget, Depth, Cells, Reckoned}
-use Rattle.instructions.specs.Words.{decoded}
-use Rattle.machine.specs.declared.Registers.{Registers}
-use Rattle.machine.specs.declared.Ending.{Ending}
-use Rattle.machine.specs.declared.Ending.TheVariants.{Halted, Stopped}
-use Rattle.machine.specs.Instructions.{State, ◌>>=◌, register, cell, put, with_pc, admitted}
-use Rattle.machine.specs.Steps.{execute, outcome, step, beside, goes}
+use Rattle.instructions.specs.declared.Stop.TheVariants.{Index, Budget, Depth, Reckoned}
+use Rattle.machine.specs.declared.Ending.TheVariants.{Stopped}
+use Rattle.machine.specs.Instructions.{State, ◌>>=◌, cell, put, admitted}
+use Rattle.machine.specs.Steps.{execute, outcome, step, goes}
 use Rattle.language.specs.Resolved.{Region, on_sheet, in_frame, Expression, constant, value, assignment, invocation, negation, inversion, operation, Subscripts, whole_of, subscript, Arguments, none, also, arity, Statement, perform, sequence, give, when, either, repeat, Statements, finish, first as then_do, Routine}
 use Rattle.language.specs.Reading.{Memory, Outcome, gives, stops, Reads, follow, Level, cells_in, with_cells, with_frame, pure, stop, with_budget, reckon, within, pay, admit, back_in, unless_returned, spend, read_expression, read_subscripts, read_arguments, read_statement, read_statements, read_routine, read_numbered, level}
 use Rattle.language.proofs.Fitting.{room, Fits, Inside, FitArgs, FitStatement, FitStatements, starts_inside}
 use Rattle.translation.specs.Translation.{Line, base, code_expression, code_subscripts, code_arguments, need_expression, need_subscripts, need_arguments, code_statement, code_statements, need_statement, need_statements, need, code_routine}
-use Rattle.meaning.proofs.Seams.{nth_past_seam, set_past_seam, nth_before_seam, set_before_seam}
+use Rattle.meaning.proofs.Seams.{nth_before_seam, set_before_seam}
 use Rattle.meaning.proofs.Instructions.{regs, register_fits, cell_seam, put_seam, push_ok, relative_ok, load_ok, store_ok, pop_ok, binary_ok, binary_stops, negate_ok, negate_stops, not_ok, not_stops, check_ok, check_past, check_none, mark_ok, call_is, jump_ahead, jump_back, jump_broke, branch_on, branch_off, branch_stops, return_ok, enter_ok, allocate_ok}
 use Rattle.meaning.proofs.Frames.{Has, Stands, stands_left, stands_right, Frame, Sound, Sized, Room, flat, flat_split, flat_push, flat_long, flat_sheet}
 

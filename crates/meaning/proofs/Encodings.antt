@@ -1,24 +1,19 @@
 -- Every instruction of a sheet's code has a word. Assumes nothing.
-use Rattle.std.proofs.Common.{◌≡◌, ℕ, ◌+◌, ◌*◌, ◌<◌, ◌≤◌, true, cond, ◌&&◌, leb, List, [], ◌∷◌, ◌++◌, length, get_or, ℤ, pos, negsuc, Some, None, Option, sym, refl, ap, ◌∙◌, subst, arith, le-leb}
+use Rattle.std.proofs.Common.{◌≡◌, ℕ, ◌+◌, ◌*◌, ◌<◌, ◌≤◌, ◌&&◌, List, [], ◌∷◌, ◌++◌, length, get_or, pos, negsuc, Some, sym, refl, ap, ◌∙◌, arith, le-leb}
 use Rattle.std.specs.List.{slice_get, AllByRecursion}
 use Rattle.std.proofs.ByRecursion.{All-append}
 use Rattle.std.proofs.lemmas.List.{length-append}
 use Rattle.reckoning.specs.Meaning.{largest}
-use Rattle.reckoning.specs.declared.Operator.{Operator}
 use Rattle.reckoning.specs.declared.Operator.TheVariants.{Add, Multiply}
 use Rattle.instructions.specs.declared.Instruction.{Instruction}
 use Rattle.instructions.specs.declared.Instruction.TheVariants.{Halt, LoadConstant, LoadRelative, Load, Store, Pop, Operate, Negate, Not, Jump, JumpZero, Mark, Call, Enter, Allocate, Return, Check}
 use lib.Signed.{le_z}
 use Rattle.instructions.specs.Words.{operand, encoded}
 use Rattle.instructions.proofs.RoundTrip.{encoded_is}
-use Rattle.language.specs.Tree.{Sheet}
-use Rattle.language.specs.Resolved.{Region, on_sheet, in_frame, Expression, constant, value, assignment, invocation, negation, inversion, operation, Subscripts, whole_of, subscript, Arguments, none, also, arity, Statement, perform, sequence, give, when, either, repeat, Statements, finish, first, Routine, Program}
-use Rattle.language.specs.Scope.{resolved}
-use Rattle.language.specs.Limits.{Limited}
+use Rattle.language.specs.Resolved.{Region, on_sheet, in_frame, Expression, constant, value, assignment, invocation, negation, inversion, operation, Subscripts, whole_of, subscript, Arguments, none, also, arity, Statement, perform, sequence, give, when, either, repeat, Statements, finish, first, Routine}
 use Rattle.language.proofs.Fitting.{room, Fits, Inside, FitArgs, FitStatement, FitStatements, FitRoutines, starts_inside}
 use Rattle.language.proofs.Resolution.{fit, cells_kept, parameters_few}
-use Rattle.translation.specs.Limits.{Compact}
-use Rattle.translation.specs.Translation.{Line, base, code_expression, code_subscripts, code_arguments, code_statement, code_statements, need, need_statements, code_routine, code_routines, size, starts_from, starts, code}
+use Rattle.translation.specs.Translation.{Line, base, code_expression, code_subscripts, code_arguments, code_statement, code_statements, need, code_routine, code_routines, size, starts}
 use Rattle.translation.proofs.Lengths.{long_routine}
 use Rattle.meaning.specs.Agreement.{Encodable}
 use Rattle.meaning.proofs.Loading.{starts_small, all_nth}

@@ -1,30 +1,13 @@
 -- Instructions in the frame of a function: the store is seen as cell 0, the sheet's cells, what lies under the frame, the four cells that a call saves,
 -- the function's variables, what its body holds above them, and the rest. Assumes nothing.
-use Rattle.std.proofs.Common.{◌≡◌, ℕ, zero, suc, ◌+◌, ◌-◌, ◌*◌, ◌<◌, ◌≤◌, Bool, true, false, cond, ◌&&◌, List, [], ◌∷◌, ◌++◌, length, get_or, take, drop, set, ℤ, pos, negsuc, ◌+ℤ◌, Some, None, Ok, Err, Option, Result, sym, refl, ap, ◌∙◌, subst, add-zero, arith}
-use Rattle.std.specs.Option.{ok_or, option_map}
+use Rattle.std.proofs.Common.{◌≡◌, ℕ, ◌+◌, ◌-◌, ◌*◌, ◌≤◌, List, [], ◌∷◌, ◌++◌, length, take, drop, pos, Some, sym, ap, subst, add-zero, arith}
 use Rattle.std.specs.List.{slice_get}
-use Rattle.std.proofs.lemmas.List.{length-set, length-append, append_assoc, append-nil, length_push, take_at}
-use Rattle.std.proofs.lemmas.Option.{slice_get-get_or}
-use Rattle.std.proofs.lemmas.Int.{ints}
-use Rattle.reckoning.specs.Meaning.{Meaning, Laws, applied, largest}
-use Rattle.reckoning.specs.declared.Operator.{Operator}
-use Rattle.reckoning.specs.declared.Stop.{Stop as ReckoningStop}
-use Rattle.instructions.specs.declared.Instruction.{Instruction}
-use Rattle.instructions.specs.declared.Instruction.TheVariants.{LoadConstant, LoadRelative, Load, Store, Pop, Operate, Negate, Not, Jump, JumpZero, Mark, Call, Enter, Allocate, Return, Check}
-use Rattle.instructions.specs.declared.Stop.{Stop}
-use Rattle.instructions.specs.declared.Stop.TheVariants.{Broken, Index, Budget, Depth, Cells, Reckoned}
+use Rattle.std.proofs.lemmas.List.{length-append, append_assoc, take_at}
+use Rattle.reckoning.specs.Meaning.{Meaning, largest}
 use Rattle.instructions.specs.Words.{decoded}
-use Rattle.machine.specs.declared.Registers.{Registers}
-use Rattle.machine.specs.declared.Ending.{Ending}
-use Rattle.machine.specs.declared.Ending.TheVariants.{Halted, Stopped}
-use Rattle.machine.specs.Instructions.{State, ◌>>=◌, register, cell, put, with_pc}
-use Rattle.machine.specs.Steps.{execute, outcome, step, beside}
-use Rattle.language.specs.Resolved.{Region, on_sheet, in_frame}
-use Rattle.language.specs.Reading.{Memory, cells_in, with_cells}
-use Rattle.language.proofs.Fitting.{room}
+use Rattle.machine.specs.Steps.{beside}
+use Rattle.language.specs.Reading.{Memory}
 use Rattle.translation.specs.Translation.{Line}
-use Rattle.meaning.proofs.Seams.{nth_past_seam, set_past_seam, nth_before_seam, set_before_seam}
-use Rattle.meaning.proofs.Instructions.{regs, register_fits, cell_seam, put_seam, push_ok, relative_ok, load_ok, store_ok, pop_ok, binary_ok, binary_stops, negate_ok, negate_stops, not_ok, not_stops, check_ok, check_past, check_none}
 
 -- An instruction with its place stands at an address.
 pub record Has (words places : List ℕ) (pc : ℕ) (l : Line) : Type 0 where

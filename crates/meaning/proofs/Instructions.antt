@@ -1,7 +1,6 @@
 -- What the machine's instructions do to a store that is seen as what lies below the topmost cells, those cells, and the rest. Assumes nothing.
-use Rattle.std.proofs.Common.{◌≡◌, ℕ, zero, suc, ◌+◌, ◌<◌, ◌≤◌, Bool, true, false, cond, ◌&&◌, ltb, leb, List, [], ◌∷◌, ◌++◌, length, drop, set, replicate, ℤ, pos, negsuc, ◌+ℤ◌, ◌-ℤ◌, Some, None, Ok, Err, Option, Result, sym, refl, ap, ◌∙◌, subst, add-zero, arith, le-ltb, lt-ltb, le-leb}
+use Rattle.std.proofs.Common.{◌≡◌, ℕ, zero, suc, ◌+◌, ◌<◌, ◌≤◌, Bool, true, false, cond, List, [], ◌∷◌, ◌++◌, length, drop, set, replicate, ℤ, pos, ◌+ℤ◌, ◌-ℤ◌, Some, None, Ok, Err, sym, refl, ap, ◌∙◌, add-zero, arith, le-ltb, lt-ltb, le-leb}
 use borrow.Author.Tests.{apart_eqb}
-use lib.Signed.{le_z, lt_z}
 use Rattle.std.specs.Option.{ok_or}
 use Rattle.std.specs.List.{slice_get}
 use Rattle.std.proofs.lemmas.Int.{ints}
@@ -9,12 +8,10 @@ use Rattle.std.proofs.lemmas.List.{length-append, append_assoc, replicate_more, 
 use Rattle.reckoning.specs.Meaning.{Meaning, Laws, applied, largest}
 use Rattle.reckoning.specs.declared.Operator.{Operator}
 use Rattle.reckoning.specs.declared.Stop.{Stop as ReckoningStop}
-use Rattle.instructions.specs.declared.Instruction.{Instruction}
-use Rattle.instructions.specs.declared.Instruction.TheVariants.{Halt, LoadConstant, LoadRelative, Load, Store, Pop, Operate, Negate, Not, Jump, JumpZero, Mark, Call, Enter, Allocate, Return, Check}
-use Rattle.instructions.specs.declared.Stop.{Stop}
-use Rattle.instructions.specs.declared.Stop.TheVariants.{Broken, Index, Budget, Depth, Cells, Reckoned}
+use Rattle.instructions.specs.declared.Instruction.TheVariants.{LoadConstant, LoadRelative, Load, Store, Pop, Operate, Negate, Not, Jump, JumpZero, Mark, Call, Enter, Allocate, Return, Check}
+use Rattle.instructions.specs.declared.Stop.TheVariants.{Broken, Index, Budget, Reckoned}
 use Rattle.machine.specs.declared.Registers.{Registers}
-use Rattle.machine.specs.Instructions.{State, ◌>>=◌, register, cell, put, natural, tops, pushed, relative, read_after, three, cleared, clear, admitted, address, saved}
+use Rattle.machine.specs.Instructions.{◌>>=◌, register, cell, put, tops, pushed, relative, read_after, three, cleared, clear, admitted, address, saved}
 use Rattle.machine.specs.Steps.{execute, goes}
 use Rattle.meaning.proofs.Seams.{nth_past_seam, set_past_seam}
 

@@ -1,31 +1,29 @@
 -- Translation and reading agree. Assumes nothing.
-use Rattle.std.proofs.Common.{◌≡◌, ℕ, zero, suc, ◌+◌, ◌-◌, ◌<◌, ◌≤◌, List, [], ◌∷◌, ◌++◌, length, get_or, take, drop, pos, Some, None, Ok, Err, sym, refl, ap, ◌∙◌, subst, add-one, arith}
+use Rattle.std.proofs.Common.{◌≡◌, ℕ, suc, ◌+◌, ◌≤◌, List, [], ◌∷◌, ◌++◌, length, get_or, take, drop, Some, Ok, Err, sym, refl, ap, ◌∙◌, subst, add-one, arith}
 use Rattle.std.specs.List.{slice_get}
-use Rattle.std.proofs.lemmas.List.{length-append, length-take-le, length-drop, take_at, append_assoc}
-use Rattle.reckoning.specs.Meaning.{Meaning, Laws, largest}
-use Rattle.instructions.specs.declared.Stop.{Stop}
+use Rattle.std.proofs.lemmas.List.{length-take-le, length-drop, take_at}
+use Rattle.reckoning.specs.Meaning.{Meaning, Laws}
 use Rattle.instructions.specs.declared.Instruction.TheVariants.{Halt}
-use Rattle.machine.specs.declared.Ending.{Ending}
 use Rattle.machine.specs.declared.Ending.TheVariants.{Halted, Stopped}
 use Rattle.machine.specs.Instructions.{State}
-use Rattle.machine.specs.Steps.{step, outcome}
+use Rattle.machine.specs.Steps.{step}
 use Rattle.machine.specs.Runs.{run}
 use Rattle.machine.proofs.Chains.{run_next, run_end}
 use Rattle.language.specs.Tree.{Sheet}
 use Rattle.language.specs.Resolved.{Routine, Program}
 use Rattle.language.specs.Scope.{resolved}
 use Rattle.language.specs.Limits.{Limited}
-use Rattle.language.specs.Reading.{Memory, Outcome, gives, stops, reading, level}
+use Rattle.language.specs.Reading.{Memory, Outcome, gives, stops, reading}
 use Rattle.language.specs.Stopping.{Clean}
 use Rattle.language.proofs.Stopping.{stops_so}
 use Rattle.language.proofs.Resolution.{fit, cells_kept, parameters_few}
 use Rattle.translation.specs.Limits.{Compact}
-use Rattle.translation.specs.Translation.{code, starts, need}
+use Rattle.translation.specs.Translation.{code, starts}
 use Rattle.meaning.specs.Agreement.{Begins, cells, framed, started, Tells, Agreement}
 use Rattle.meaning.proofs.Seams.{nth_past_seam}
 use Rattle.meaning.proofs.Frames.{Has, Stands}
 use Rattle.meaning.proofs.Instructions.{regs}
-use Rattle.meaning.proofs.Agreement.{step_at, Meets, exit, entry, Answered, Loaded, call_ok}
+use Rattle.meaning.proofs.Agreement.{step_at, Meets, exit, Answered, Loaded, call_ok}
 use Rattle.meaning.proofs.Loading.{stands, routine_stands, starts_small, all_nth, fit_nth}
 
 module _ {Cell : Type 0} (m : Meaning Cell) (laws : Laws m) (words places : List ℕ) (g : ℕ) (o : Outcome Cell Cell) where

@@ -1,5 +1,5 @@
 -- Translation and reading agree: the code of a sheet does on the machine what its reading says. Assumes nothing.
-use Rattle.std.specs.Prelude.{◌≡◌, ℕ, ◌+◌, ◌≤◌, List, [], ◌∷◌, ◌++◌, length, take, drop, pos, Some, slice_index}
+use Rattle.std.specs.Prelude.{◌≡◌, ℕ, ◌+◌, ◌≤◌, List, ◌∷◌, ◌++◌, length, take, drop, pos, Some, slice_index}
 use Rattle.std.specs.List.{slice_get, AllByRecursion}
 use Rattle.reckoning.specs.Meaning.{Meaning}
 use Rattle.instructions.specs.Words.{encoded}

@@ -1,4 +1,6 @@
 // What a sheet means and what it translates to agree.
+#![tactic(auto)]
+
 mod examples;
 mod laws;
 

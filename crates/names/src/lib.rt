@@ -1,4 +1,6 @@
 // The questions that a sheet's tree must answer before it is translated, and what their answers say.
+#![tactic(auto)]
+
 ghost use Rattle.std.specs.Prelude.{◌≡◌, length};
 ghost use Rattle.names.specs.Examples.{examples, Agree};
 ghost use Rattle.names.specs.Laws.{QuestionLaws};

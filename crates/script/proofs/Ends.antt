@@ -1,5 +1,5 @@
 -- What a command leaves where it ends, and where it finds no memory. Assumes nothing.
-use Rattle.std.proofs.Common.{◌≡◌, ℕ, ◌-◌, true, false, cond, List, ◌++◌, is_ok, is_err, Some, Ok, Err, Result, sym, refl, ap, ◌∙◌, true≢false}
+use Rattle.std.proofs.Common.{◌≡◌, ℕ, ◌-◌, true, cond, List, ◌++◌, is_ok, is_err, Some, Ok, Err, Result, sym, ap, ◌∙◌, true≢false}
 use Rattle.std.specs.declared.alloc.AllocError.{AllocError}
 use Rattle.machine.specs.declared.state.Ending.{Ending}
 use Rattle.machine.specs.declared.state.Registers.{Registers as Six}

@@ -1,16 +1,16 @@
 -- The fold over the lines of a script, a line at a time. Assumes nothing.
-use Rattle.std.proofs.Common.{◌≡◌, ℕ, ◌+◌, max, Bool, true, false, cond, ◌⊎◌, List, [], ◌∷◌, ◌++◌, Some, None, Ok, Err, Option, Result, sym, refl, ap, ◌∙◌, subst, inl, inr, ⊎_elim, append_assoc, append-nil}
+use Rattle.std.proofs.Common.{◌≡◌, ℕ, ◌+◌, Bool, true, false, cond, ◌⊎◌, List, [], ◌∷◌, ◌++◌, Some, None, Ok, Err, Option, Result, sym, refl, ap, ◌∙◌, subst, inl, inr, append_assoc, append-nil}
 use Rattle.reckoning.specs.Meaning.{Meaning}
-use Rattle.wording.specs.Pieces.{lines, words}
+use Rattle.wording.specs.Pieces.{words}
 use Rattle.commands.specs.declared.Cause.{Cause}
-use Rattle.commands.specs.declared.Cause.TheVariants.{NoEnd, NoMemory, NoReckoning}
+use Rattle.commands.specs.declared.Cause.TheVariants.{NoEnd, NoMemory}
 use Rattle.commands.specs.declared.Chosen.{Chosen}
 use Rattle.commands.specs.declared.Command.{Command}
 use Rattle.commands.specs.declared.Command.TheVariants.{Nothing, Store, Cell, Code, Word, End, Registers, Run, Show}
 use Rattle.commands.specs.Commands.{reckoning, command}
 use Rattle.script.specs.declared.fault.Fault.{Fault}
 use Rattle.script.specs.Sessions.{State, context, executed, reported}
-use Rattle.script.specs.Scripts.{fault, ended, told, carried, named, begun, Begins, Short, Meets, Stepped}
+use Rattle.script.specs.Scripts.{fault, ended, told, carried, named, begun, Begins, Meets, Stepped}
 
 all_of : (xs : List ℕ) → Begins xs xs
 all_of xs = ([], sym (append-nil xs))

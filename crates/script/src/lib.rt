@@ -1,4 +1,6 @@
 // Scripts for the machine: a store, a listing, registers, and runs from them.
+#![tactic(auto)]
+
 mod examples;
 mod fault;
 mod report;

@@ -1,13 +1,13 @@
 -- What the functions of the descent add to one another. Assumes nothing.
-use Rattle.std.proofs.Common.{◌≡◌, ℕ, zero, suc, ◌+◌, ◌<◌, ◌≤◌, Bool, true, false, cond, ◌||◌, eqb, ltb, leb, List, [], ◌∷◌, length, drop, Some, None, Ok, Err, Option, Result, sym, refl, ap, ◌∙◌, subst, zero-le, arith}
-use Rattle.std.proofs.lemmas.Bool.{le-leb, lt-leb, eqb-true, ne_eqb, cond-true, cond-false, or_parts, or_from, true≢false, false≢true, ltb-true, ltb-false}
+use Rattle.std.proofs.Common.{◌≡◌, ℕ, suc, ◌+◌, ◌<◌, ◌≤◌, Bool, true, false, cond, ◌||◌, eqb, leb, List, ◌∷◌, length, drop, Some, None, Ok, Err, Option, Result, sym, refl, ap, ◌∙◌, subst, zero-le, arith}
+use Rattle.std.proofs.lemmas.Bool.{le-leb, lt-leb, eqb-true, ne_eqb, cond-true, cond-false, or_parts, true≢false, false≢true}
 use Rattle.reckoning.specs.declared.Operator.{Operator}
 use Rattle.reckoning.specs.declared.Operator.TheVariants.{Add, Subtract, Multiply, Divide, Remainder, Compare}
-use Rattle.language.specs.Tree.{Name, Sign, minus, bang, Expr, number, variable, call, unary, binary, assign, brackets, Indices, plain, index, Args, no_args, argument}
-use Rattle.grammar.specs.Lexemes.{round, end_round, square, end_square, comma, mark, is, code}
+use Rattle.language.specs.Tree.{Name, Sign, minus, bang, Expr, number, variable, unary, binary, assign, plain}
+use Rattle.grammar.specs.Lexemes.{round, square, mark, is}
 use Rattle.grammar.specs.Words.{level}
-use Rattle.grammar.specs.Parsing.{Stack, base, sign, left, target, bracket, element, called, Operand, need, have, Answer, no, on, settle, arguments, closes, applied, empty, feed_operand}
-use Rattle.grammar.specs.Limits.{opens, opens_in, wrong}
+use Rattle.grammar.specs.Parsing.{Stack, base, sign, left, target, bracket, element, called, need, have, Answer, no, on, settle, closes, applied, empty, feed_operand}
+use Rattle.grammar.specs.Limits.{opens, wrong}
 use Rattle.grammar.proofs.Pending.{level_bounds}
 use Rattle.sheet.specs.declared.nodes.Mark.{Mark}
 use Rattle.sheet.specs.declared.nodes.Mark.TheVariants.{Round, EndRound, Square, EndSquare, Brace, EndBrace, Comma, Semicolon, Int, Return, If, Else, While, For}
@@ -18,9 +18,9 @@ use Rattle.sheet.specs.declared.looks.Start.{Start}
 use Rattle.sheet.specs.declared.looks.Start.TheVariants.{Sign as ASign, Number as ANumeral, Name as AWord, Open, Other}
 use Rattle.sheet.specs.declared.refusal.Refusal.{Refusal}
 use Rattle.sheet.specs.Nodes.{says, part, mark_of}
-use Rattle.sheet.specs.Looks.{kind_at, start_of, binding, is_kind, is_at, equals_at, opening}
-use Rattle.sheet.specs.Runs.{refusal, refused_at, deep_at, complete_at, close_at, enter_at, judged, Context, here, floor, Stops, Apt, ReadsTo, ReadsNot, Reads, ExtendsTo, ExtendsNot, Extends, AppliesTo, AppliesNot, Applies, PassesTo, PassesNot, Passes}
-use Rattle.sheet.proofs.Machine.{inside_table, HoldsAt, holds_at, fed, reads_on, past_limit, refuses_at, same_at}
+use Rattle.sheet.specs.Looks.{kind_at, start_of, binding, is_kind, equals_at, opening}
+use Rattle.sheet.specs.Runs.{refused_at, complete_at, judged, Context, here, floor, Stops, Apt, ReadsTo, ReadsNot, Reads, ExtendsTo, ExtendsNot, Extends, Applies}
+use Rattle.sheet.proofs.Machine.{inside_table, HoldsAt, holds_at, reads_on, refuses_at, same_at}
 
 -- What follows an operand that is put together with what binds at level n.
 abbrev Binds : ℕ → Kind → Type 0

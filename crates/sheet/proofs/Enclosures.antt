@@ -1,10 +1,10 @@
 -- Brackets, elements and calls in the descent. Assumes nothing.
-use Rattle.std.proofs.Common.{◌≡◌, ℕ, zero, suc, ◌+◌, ◌<◌, ◌≤◌, Bool, true, false, cond, ◌||◌, eqb, ltb, List, [], ◌∷◌, length, drop, Some, None, Ok, Err, Option, Result, sym, refl, ap, ◌∙◌, subst, zero-le, arith}
-use Rattle.std.proofs.lemmas.Bool.{cond-true, cond-false, or_parts, or_from, true≢false, false≢true, both_ways, ltb-true, ltb-false}
-use Rattle.language.specs.Tree.{Name, Expr, variable, call, brackets, plain, index, Args, no_args, argument}
+use Rattle.std.proofs.Common.{◌≡◌, ℕ, suc, ◌+◌, ◌<◌, ◌≤◌, Bool, true, false, cond, ltb, List, [], ◌∷◌, length, drop, Some, Ok, Err, Option, Result, sym, refl, ap, ◌∙◌, subst, zero-le, arith}
+use Rattle.std.proofs.lemmas.Bool.{cond-true, cond-false, or_parts, or_from, both_ways, ltb-true, ltb-false}
+use Rattle.language.specs.Tree.{Name, Expr, variable, call, brackets, plain, index, no_args, argument}
 use Rattle.grammar.specs.Lexemes.{round, end_round, square, end_square, comma, mark, is, code}
-use Rattle.grammar.specs.Parsing.{Stack, bracket, element, called, Operand, need, have, Answer, no, on, settle, arguments, closes, feed_operand}
-use Rattle.grammar.specs.Limits.{opens, opens_in, wrong}
+use Rattle.grammar.specs.Parsing.{Stack, bracket, element, called, need, have, Answer, no, on, settle, arguments, closes, feed_operand}
+use Rattle.grammar.specs.Limits.{opens}
 use Rattle.sheet.specs.declared.nodes.Mark.{Mark}
 use Rattle.sheet.specs.declared.nodes.Mark.TheVariants.{Round, EndRound, Square, EndSquare, Comma}
 use Rattle.sheet.specs.declared.nodes.Kind.{Kind}
@@ -14,8 +14,8 @@ use Rattle.sheet.specs.declared.refusal.Refusal.{Refusal}
 use Rattle.sheet.specs.Nodes.{says, part, mark_of}
 use Rattle.sheet.specs.Looks.{kind_at, is_kind, is_at, opening}
 use Rattle.sheet.specs.Runs.{refusal, refused_at, deep_at, complete_at, close_at, enter_at, judged, Context, here, Stops, Apt, ReadsTo, ReadsNot, Reads, AppliesTo, AppliesNot, Applies, PassesTo, PassesNot, Passes}
-use Rattle.sheet.proofs.Machine.{inside_table, HoldsAt, holds_at, fed, reads_on, past_limit, refuses_at}
-use Rattle.sheet.proofs.Descent.{Marked, marked, differ, stops_whole, complete_reads, complete_applies}
+use Rattle.sheet.proofs.Machine.{inside_table, holds_at, fed, reads_on, past_limit, refuses_at}
+use Rattle.sheet.proofs.Descent.{marked, differ, stops_whole, complete_reads, complete_applies}
 
 pub enter_fails : (i held : ℕ) (f : Refusal) → ◌≡◌ {A = Result ℕ Refusal} (Err f) (enter_at i held) → (f ≡ deep_at i) × (8 ≤ held)
 enter_fails i held f is = go (ltb held 8) refl is

@@ -1,8 +1,8 @@
 -- The steps of the grammar over a table's tokens. Assumes nothing.
-use Rattle.std.proofs.Common.{◌≡◌, ℕ, zero, suc, ◌+◌, ◌-◌, ◌<◌, ◌≤◌, Bool, true, false, cond, ◌||◌, ltb, leb, List, [], ◌∷◌, map, length, drop, Some, None, Option, sym, refl, ap, ◌∙◌, subst, ap₂, add-zero, arith, length-drop}
+use Rattle.std.proofs.Common.{◌≡◌, ℕ, suc, ◌+◌, ◌<◌, ◌≤◌, true, false, cond, List, [], ◌∷◌, length, drop, Some, None, Option, sym, refl, ap, ◌∙◌, add-zero, arith, length-drop}
 use Rattle.std.proofs.lemmas.List.{drop-drop}
 use Rattle.std.proofs.lemmas.Bool.{le-ltb, lt-ltb, or_from, or_left}
-use Rattle.grammar.specs.Parsing.{Operand, need, have, Answer, no, on, feed_operand, Turn, resumes, turns, State, inside, feed, Verdict, refused, ending}
+use Rattle.grammar.specs.Parsing.{Operand, Answer, no, on, feed_operand, resumes, turns, State, feed, refused, ending}
 use Rattle.grammar.specs.Limits.{opens_in, deep, Judgement, right, wrong, postponed, finally, if_shallow, judge}
 use Rattle.sheet.specs.declared.nodes.Kind.{Kind}
 use Rattle.sheet.specs.declared.nodes.Node.{Node}

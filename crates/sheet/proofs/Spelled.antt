@@ -1,13 +1,13 @@
 -- A record shows the token that it was made of. Assumes nothing.
 use Rattle.std.proofs.Common.{◌≡◌, ℕ, zero, suc, ◌+◌, ◌-◌, min, Bool, true, false, cond, not, ◌&&◌, leb, List, [], ◌∷◌, map, length, take, drop, Some, None, Ok, Err, Option, Result, sym, refl, ap, ◌∙◌, subst, ap₂, arith}
-use Rattle.std.specs.List.{prefix_len, AllByRecursion}
+use Rattle.std.specs.List.{prefix_len}
 use Rattle.tokens.specs.declared.fault.Cause.TheVariants.{Limit}
 use Rattle.tokens.specs.declared.fault.Fault.{Fault}
 use Rattle.tokens.specs.declared.lexemes.Word.{Word}
 use Rattle.tokens.specs.declared.lexemes.Word.TheVariants.{Int, If, Else, While, For, Return}
 use Rattle.tokens.specs.declared.lexemes.Sign.{Sign}
 use Rattle.tokens.specs.declared.lexemes.Sign.TheVariants.{OpenRound, CloseRound, OpenCurly, CloseCurly, OpenSquare, CloseSquare, Semicolon, Comma, Becomes, Plus, Minus, Star, Slash, Percent, Less, Greater, Bang, AtMost, AtLeast, Equal, NotEqual}
-use Rattle.tokens.specs.Tokens.{Lexeme, word, sign, name, number, Measured, Piece, inner, digit, letter, value, needless, kept, named, numbered, sized, single, double, short, long, signed, begun, front_of, placed, some_piece, at_place, past_gaps, next, before, tokens}
+use Rattle.tokens.specs.Tokens.{Lexeme, word, sign, name, number, Measured, Piece, inner, digit, letter, value, needless, kept, named, sized, single, double, short, long, signed, begun, front_of, placed, some_piece, at_place, past_gaps, next, before, tokens}
 use Rattle.tokens.proofs.Turns.{onward, follow, step}
 use Rattle.grammar.specs.Lexemes.{identifier}
 use Rattle.sheet.specs.declared.nodes.Node.{Node}

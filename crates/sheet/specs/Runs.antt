@@ -1,6 +1,6 @@
 -- What the grammar says of a table's tokens, from one on. Assumes nothing.
-use Rattle.std.specs.Prelude.{◌≡◌, ℕ, suc, ◌+◌, ◌<◌, ◌≤◌, Bool, true, false, cond, ltb, List, [], ◌∷◌, length, drop, Some, None, Ok, Err, Option, Result, nat_lt}
-use Rattle.language.specs.Tree.{Name, Expr, variable, call, Indices, plain, Args, Variable}
+use Rattle.std.specs.Prelude.{◌≡◌, ℕ, suc, ◌+◌, ◌<◌, ◌≤◌, true, false, cond, ltb, List, length, drop, Some, None, Ok, Err, Option, Result, nat_lt}
+use Rattle.language.specs.Tree.{Name, Expr, variable, call, plain, Args, Variable}
 use Rattle.grammar.specs.Words.{level}
 use Rattle.grammar.specs.Parsing.{Stack, base, sign, left, target, bracket, element, called, Operand, need, have, no, empty, arguments, Pending, Part, reading, Heading, State, inside}
 use Rattle.grammar.specs.Limits.{opens, depth, Judgement, right, wrong, judge}

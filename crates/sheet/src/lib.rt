@@ -1,4 +1,6 @@
 // From a rule's text to its tokens in a table that the caller supplies, one record for each token, and the grammar over it.
+#![tactic(auto)]
+
 mod filling;
 mod looks;
 mod nodes;

@@ -1,8 +1,8 @@
 -- How many words code has, whatever its address. Assumes nothing.
-use Rattle.std.proofs.Common.{◌≡◌, ℕ, ◌+◌, List, [], ◌∷◌, ◌++◌, length, refl, arith}
+use Rattle.std.proofs.Common.{◌≡◌, ℕ, ◌+◌, List, [], length, refl, arith}
 use Rattle.std.proofs.lemmas.List.{length-append}
-use Rattle.language.specs.Resolved.{Expression, constant, value, assignment, invocation, negation, inversion, operation, Subscripts, whole_of, subscript, Arguments, none, also, Statement, perform, sequence, give, when, either, repeat, Statements, finish, first, Routine}
-use Rattle.translation.specs.Translation.{code_expression, code_subscripts, code_arguments, code_statement, code_statements, code_routine, size}
+use Rattle.language.specs.Resolved.{Expression, constant, value, assignment, invocation, negation, inversion, operation, Subscripts, whole_of, subscript, Arguments, none, also, Statement, perform, sequence, give, when, either, repeat, Statements, finish, first}
+use Rattle.translation.specs.Translation.{code_expression, code_subscripts, code_arguments, code_statement, code_statements}
 use Rattle.translation.specs.Layout.{SameSize}
 
 -- No address changes the length of code.

@@ -1,10 +1,10 @@
 -- Where the code of a function stands in that of its sheet. Assumes nothing.
-use Rattle.std.proofs.Common.{◌≡◌, ℕ, zero, suc, ◌+◌, List, [], ◌∷◌, ◌++◌, length, get_or, Some, sym, refl, ap, ◌∙◌, subst, add-zero, arith}
+use Rattle.std.proofs.Common.{◌≡◌, ℕ, zero, suc, ◌+◌, List, [], ◌∷◌, ◌++◌, length, get_or, Some, sym, ap, ◌∙◌, add-zero, arith}
 use Rattle.std.specs.List.{slice_get}
 use Rattle.std.proofs.lemmas.List.{length-append, append_assoc}
 use Rattle.instructions.specs.declared.Instruction.TheVariants.{Halt}
-use Rattle.language.specs.Resolved.{Routine, Program}
-use Rattle.translation.specs.Translation.{Line, code_routine, code_routines, code, size, starts_from, starts}
+use Rattle.language.specs.Resolved.{Routine}
+use Rattle.translation.specs.Translation.{Line, code_routine, code_routines, size, starts_from, starts}
 use Rattle.translation.specs.Layout.{InOnePiece}
 use Rattle.translation.proofs.Lengths.{long_routine}
 

@@ -1,5 +1,5 @@
 -- The translation: the code of a sheet whose names are resolved. Assumes nothing.
-use Rattle.std.specs.Prelude.{ℕ, ◌+◌, max, List, [], ◌∷◌, ◌++◌, map, length, ℤ, pos, negsuc, slice_index}
+use Rattle.std.specs.Prelude.{ℕ, ◌+◌, max, List, [], ◌∷◌, ◌++◌, length, pos, negsuc, slice_index}
 use Rattle.reckoning.specs.declared.Operator.TheVariants.{Add, Multiply}
 use Rattle.instructions.specs.declared.Instruction.{Instruction}
 use Rattle.instructions.specs.declared.Instruction.TheVariants.{Halt, LoadConstant, LoadRelative, Load, Store, Pop, Operate, Negate, Not, Jump, JumpZero, Mark, Call, Enter, Allocate, Return, Check}

@@ -1,4 +1,6 @@
 // The translation of sheets into code for the machine.
+#![tactic(auto)]
+
 ghost use Rattle.std.specs.Prelude.{◌≡◌};
 ghost use Rattle.translation.specs.Layout.{SameSize, InOnePiece};
 

@@ -1,4 +1,4 @@
-use Rattle.std.proofs.Common.{◌≡◌, sym, ap, ◌∙◌, w32, SFits, to_z, of_z}
+use Rattle.std.proofs.Common.{sym, ap, ◌∙◌, w32, SFits, to_z, of_z}
 use Rattle.std.proofs.lemmas.Int.{to_z-of_z}
 use Rattle.machine.proofs.Cells.{read_after_outside, read_after_same, read_after_other}
 use Rattle.machine.proofs.effects.read_after.Goals as goal

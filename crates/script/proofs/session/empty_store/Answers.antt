@@ -1,4 +1,4 @@
-use Rattle.std.proofs.Common.{◌≡◌, replicate, ap, ◌∙◌, arith, rules}
+use Rattle.std.proofs.Common.{replicate, ap, ◌∙◌, arith, rules}
 use Rattle.std.proofs.lemmas.List.{replicate_more}
 use Rattle.script.proofs.session.empty_store.Goals as goal
 

@@ -1,4 +1,4 @@
-use Rattle.std.proofs.Common.{Some, string_bytes, sym, ap, ◌∙◌, subst, inl, arith}
+use Rattle.std.proofs.Common.{Some, string_bytes, ap, ◌∙◌, subst, inl, arith}
 use Rattle.wording.specs.Pieces.{lines}
 use Rattle.script.specs.Scripts.{begun, answered, performed, Meets}
 use Rattle.script.proofs.transcript.perform.Goals as goal
