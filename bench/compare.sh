@@ -3,8 +3,8 @@
 #
 #   compare.sh [CMA [ROUNDS]]
 #
-# CMA is the program to compare (../target/bin/cma beside this folder, if not given,
-# as `rt check cma` builds it), ROUNDS how often each program runs each script (7).
+# CMA is the program to compare (../crates/cma/out/cma beside this folder, if not given,
+# as `rt run` in crates/cma builds it), ROUNDS how often each program runs each script (7).
 # Both programs must print the same bytes for each script. Then they run in turn, and
 # the least and the median user time of each are printed, in seconds, with the ratio
 # cma / C. The C compiler is gcc, or the one that CC names.
@@ -14,7 +14,7 @@ set -euo pipefail
 export LC_ALL=C
 
 here=$(cd "$(dirname "${BASH_SOURCE[0]}")" && pwd)
-ours=${1:-$here/../target/bin/cma}
+ours=${1:-$here/../crates/cma/out/cma}
 rounds=${2:-7}
 compiler=${CC:-gcc}
 

@@ -55,11 +55,11 @@ fn begin<R: Reckoning>(
     })
 }
 
-fn conclude<C: Copy>(ending: Ending, res: C, spent: u32) -> Answer<C>
-    ensures { result ≡ answered ending res spent }
+fn conclude<C: Copy>(ending: Ending, outcome: C, spent: u32) -> Answer<C>
+    ensures { result ≡ answered ending outcome spent }
 {
     match ending {
-        Ending::Halted => Answer::Value(res, spent),
+        Ending::Halted => Answer::Value(outcome, spent),
         Ending::Stopped(stop, place) => Answer::Stopped(stop, place, spent),
     }
 }

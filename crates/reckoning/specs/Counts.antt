@@ -12,7 +12,7 @@ abbrev pub count_place : ℤ → Option ℕ
 count_place (pos n) = cond (nat_le n largest) (Some n) None
 count_place (negsuc n) = None
 
--- quotZ drops the fraction toward zero, and remZ has the sign of the left operand
+-- int_div drops the fraction toward zero, and int_rem has the sign of the left operand
 abbrev pub counts_meaning : Meaning ℤ
 counts_meaning = record {
   whole = pos;

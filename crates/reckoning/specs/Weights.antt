@@ -32,7 +32,7 @@ abbrev pub weight_place : ℤ → Option ℕ
 weight_place (pos n) = cond (n % 1000 == 0 && nat_le (n / 1000) largest) (Some (n / 1000)) None
 weight_place (negsuc n) = None
 
--- of thousandths; quotZ drops the fraction toward zero, and remZ has the sign of the left operand
+-- of thousandths; int_div drops the fraction toward zero, and int_rem has the sign of the left operand
 abbrev pub weight_quotient : ℤ → ℤ → Result Weight Stop
 weight_quotient a b = cond (is_zero b) (Err ZeroDivisor) (weighed (int_div (a *ℤ pos 1000) b))
 

@@ -41,6 +41,10 @@ short_end n out s e = inr ((n, refl), begins_at out s.output (ended n s).0 e (en
 pub meets_at : (out : List ℕ) (f : Option Fault) (d e : List ℕ × Option Fault) → d ≡ e → Meets out f d → Meets out f e
 meets_at out f d e p h = subst (λ x. Meets out f x) p h
 
+-- the line of a fault under another name
+pub meets_line : (out : List ℕ) (k n : ℕ) (cause : Cause) (d : List ℕ × Option Fault) → k ≡ n → Meets out (Some (fault n cause)) d → Meets out (Some (fault k cause)) d
+meets_line out k n cause d same h = subst (λ l. Meets out (Some (fault l cause)) d) (sym same) h
+
 module _ {C : Type 0} (m : Meaning C) (reads : List ℕ → Option C) (writes : C → List ℕ) where
   grows : (s : State C) (c : Command C) → Begins s.output (executed m writes s c).output
   grows s Nothing = all_of s.output

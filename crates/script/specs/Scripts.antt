@@ -1,5 +1,5 @@
 -- What a script prints, and where it fails. Assumes nothing.
-use Rattle.std.specs.Prelude.{◌≡◌, ℕ, ◌+◌, ◌≤◌, max, cond, ◌⊎◌, List, [], ◌∷◌, ◌++◌, Some, None, Ok, Err, Option, Result}
+use Rattle.std.specs.Prelude.{◌≡◌, ℕ, ◌+◌, ◌^◌, ◌<◌, ◌≤◌, max, cond, ◌⊎◌, List, [], ◌∷◌, ◌++◌, length, Some, None, Ok, Err, Option, Result}
 use Rattle.std.specs.Borrow.{Bor}
 use Rattle.std.specs.Fmt.{signed_decimal}
 use Rattle.reckoning.specs.Counts.{counts_meaning}
@@ -71,6 +71,10 @@ Meets output f d = ((output, f) ≡ d) ⊎ (Short f × Begins output d.0)
 abbrev pub FromOne : Option Fault → Type 0
 FromOne None = Unit {0}
 FromOne (Some f) = 1 ≤ f.line
+
+-- A text after so many lines, one at least, whose lines have numbers of 64 bits.
+abbrev pub Numbered : ℕ → List ℕ → Type 0
+Numbered before text = (1 ≤ before) × (before + length text < 2 ^ 64)
 
 abbrev pub begun_of : Result (Chosen × ℕ × Bor (List ℕ)) Fault → Result (Chosen × ℕ × List (List ℕ)) Fault
 begun_of (Ok p) = Ok (p.0, p.1, lines p.2.now)

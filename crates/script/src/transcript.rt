@@ -2,7 +2,7 @@ ghost use Rattle.std.specs.Prelude.{◌≡◌, ◌+◌, ◌^◌, ◌<◌, ◌≤
 ghost use Rattle.wording.specs.Pieces.{lines, words};
 ghost use Rattle.commands.specs.Commands.{command};
 ghost use Rattle.script.specs.Sessions.{state, fresh, context, executed};
-ghost use Rattle.script.specs.Scripts.{ended, carried, begun, begun_of, reckoned, performed, Meets, FromOne, Stepped};
+ghost use Rattle.script.specs.Scripts.{ended, carried, begun, begun_of, reckoned, performed, Meets, FromOne, Numbered, Stepped};
 
 use crate::fault::Fault;
 use crate::session::{Session, context_of, empty_session, execute, finish};
@@ -32,21 +32,21 @@ fn step<N: Notation>(heap: Global, session: &mut Session<N::Cell>, line: &[u8]) 
 
 // What comes after the last of so many lines.
 fn conclude<C>(heap: Global, session: &mut Session<C>, done: usize) -> Option<Fault>
-    requires { 1 ≤ done }
     ensures from_one { FromOne result }
-    ensures meets { Meets (string_bytes session.new.output) result (ended done (state session.old)) }
+    ensures meets { 1 ≤ done → Meets (string_bytes session.new.output) result (ended done (state session.old)) }
 {
+    let line = done.max(1);
     let listing = session.listing;
     if listing {
         return Some(Fault {
-            line: done,
+            line,
             cause: Cause::NoEnd,
         });
     }
     match finish(heap, session) {
         Ok(()) => None,
         Err(_) => Some(Fault {
-            line: done,
+            line,
             cause: Cause::NoMemory,
         }),
     }
@@ -59,31 +59,28 @@ fn carry_out<N: Notation>(
     text: &[u8],
     before: usize,
 ) -> Option<Fault>
-    requires from_one { 1 ≤ before }
-    requires fits { before + length text.now < 2 ^ 64 }
     ensures from_one { FromOne result }
-    ensures meets { Meets (string_bytes session.new.output) result (carried N.Reckoning.meaning N.Notation.reads N.Notation.writes before (lines text.now) (state session.old)) }
+    ensures meets { Numbered before text.now → Meets (string_bytes session.new.output) result (carried N.Reckoning.meaning N.Notation.reads N.Notation.writes before (lines text.now) (state session.old)) }
 {
     let mut rest = text;
     let mut done = before;
     while let Some((line, after)) = first_line(rest) {
+        let number = done.saturating_add(1);
         if let Err(cause) = step::<N>(heap, session, line) {
             return Some(Fault {
-                line: done + 1,
+                line: number,
                 cause,
             });
         }
-        done += 1;
+        done = number;
         rest = after;
     }
     conclude(heap, session, done)
 }
 
 fn carry_out_all<N: Notation>(heap: Global, text: &[u8], before: usize) -> Transcript
-    requires from_one { 1 ≤ before }
-    requires fits { before + length text.now < 2 ^ 64 }
     ensures from_one { FromOne result.fault }
-    ensures meets { Meets (string_bytes result.output) result.fault (carried N.Reckoning.meaning N.Notation.reads N.Notation.writes before (lines text.now) fresh) }
+    ensures meets { Numbered before text.now → Meets (string_bytes result.output) result.fault (carried N.Reckoning.meaning N.Notation.reads N.Notation.writes before (lines text.now) fresh) }
 {
     let mut session = empty_session::<N::Cell>(heap);
     let fault = carry_out::<N>(heap, &mut session, text, before);
@@ -94,10 +91,8 @@ fn carry_out_all<N: Notation>(heap: Global, text: &[u8], before: usize) -> Trans
 }
 
 fn carry_out_in(heap: Global, reckoning: Chosen, text: &[u8], before: usize) -> Transcript
-    requires from_one { 1 ≤ before }
-    requires fits { before + length text.now < 2 ^ 64 }
     ensures from_one { FromOne result.fault }
-    ensures meets { Meets (string_bytes result.output) result.fault (reckoned reckoning before (lines text.now)) }
+    ensures meets { Numbered before text.now → Meets (string_bytes result.output) result.fault (reckoned reckoning before (lines text.now)) }
 {
     match reckoning {
         Chosen::Counts => carry_out_all::<Counts>(heap, text, before),

@@ -7,7 +7,7 @@ use Rattle.tokens.specs.declared.lexemes.Sign.{Sign}
 use Rattle.tokens.specs.declared.lexemes.Sign.TheVariants.{OpenRound, CloseRound, OpenCurly, CloseCurly, OpenSquare, CloseSquare, Semicolon, Comma, Becomes, Plus, Minus, Star, Slash, Percent, Less, Greater, Bang, AtMost, AtLeast, Equal, NotEqual}
 use Rattle.tokens.specs.Tokens.{Piece, Lexeme, word, sign, name, number}
 use Rattle.reckoning.specs.declared.Operator.TheVariants.{Add, Subtract, Multiply, Divide, Remainder, Compare}
-use Rattle.reckoning.specs.declared.Comparison.TheVariants.{Equal as equal, NotEqual as not_equal, Less as less, AtMost as at_most, Greater as greater, AtLeast as at_least_lem}
+use Rattle.reckoning.specs.declared.Comparison.TheVariants.{Equal as equal, NotEqual as not_equal, Less as less, AtMost as at_most, Greater as greater, AtLeast as at_least}
 use Rattle.grammar.specs.Lexemes.{round, end_round, square, end_square, brace, end_brace, comma, semicolon, int_word, return_word, if_word, else_word, while_word, for_word, numeral, identifier, operator, exclamation, equals, mark, Token}
 use Rattle.grammar.specs.Lexemes.{Mark as GrammarMark, Lexeme as GrammarLexeme}
 use Rattle.sheet.specs.declared.nodes.Mark.{Mark}
@@ -43,7 +43,7 @@ kind_of_sign Less = AnOperator (Compare less)
 kind_of_sign Greater = AnOperator (Compare greater)
 kind_of_sign Bang = AnExclamation
 kind_of_sign AtMost = AnOperator (Compare at_most)
-kind_of_sign AtLeast = AnOperator (Compare at_least_lem)
+kind_of_sign AtLeast = AnOperator (Compare at_least)
 kind_of_sign Equal = AnOperator (Compare equal)
 kind_of_sign NotEqual = AnOperator (Compare not_equal)
 
