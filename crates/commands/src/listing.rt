@@ -1,5 +1,5 @@
 // A line of a listing: NAME [OPERAND] [@PLACE], or word N [@PLACE].
-ghost use Rattle.std.specs.Prelude.{◌≡◌, ◌+◌, ◌*◌, ◌<◌, true, pos, negsuc, Some, None, int_le};
+ghost use Rattle.std.specs.Prelude.{◌≡◌, ◌+◌, ◌*◌, ◌&&◌, if◌then◌else◌, pos, negsuc, Some, None, Ok, Err, int_le};
 ghost use Rattle.std.specs.Option.{option_map, ok_or};
 ghost use Rattle.wording.specs.Pieces.{words, place_of};
 ghost use Rattle.commands.specs.Listings.{names, after_at, word, place, lone, placed, line};
@@ -27,16 +27,21 @@ fn after_at(word: &[u8]) -> Option<&[u8]>
 }
 
 // The word of an instruction's number and an operand.
-fn joined(number: usize, operand: i64) -> u32
-    requires { (number < 27) × ((int_le (negsuc 8388607) operand ≡ true) × (int_le operand (pos 8388607) ≡ true)) }
-    ensures { result ≡ 16777216 * number + low_bits operand }
+fn word_with(number: u8, operand: i64) -> Result<u32, Cause>
+    ensures { result ≡ (if int_le (negsuc 8388607) operand && int_le operand (pos 8388607) then Ok (16777216 * number + low_bits operand) else Err Cause.OperandRange) }
 {
+    if operand < -0x80_0000 {
+        return Err(Cause::OperandRange);
+    }
+    if operand > 0x7f_ffff {
+        return Err(Cause::OperandRange);
+    }
     let low = if operand < 0 {
         operand + 0x100_0000
     } else {
         operand
     };
-    0x100_0000 * number as u32 + low as u32
+    Ok(0x100_0000 * number as u32 + low as u32)
 }
 
 // The word of a name that no operand follows.
@@ -46,7 +51,7 @@ fn bare(name: &[u8]) -> Result<u32, Cause>
     if is_word(name, "word") {
         return Err(Cause::MissingWord);
     }
-    Ok(joined(number_of(name)?, 0))
+    word_with(number_of(name)? as u8, 0)
 }
 
 // The word of a name and its operand.
@@ -59,7 +64,7 @@ fn with_operand(name: &[u8], operand: &[u8]) -> Result<u32, Cause>
     }
     let number = number_of(name)?;
     let operand = between(operand, -0x80_0000, 0x7f_ffff, Cause::OperandRange)?;
-    Ok(joined(number, operand))
+    word_with(number as u8, operand)
 }
 
 fn place(word: &[u8]) -> Result<u32, Cause>

@@ -1,4 +1,5 @@
-ghost use Rattle.std.specs.Prelude.{◌≡◌};
+ghost use Rattle.std.specs.Prelude.{◌≡◌, ◌+◌, min};
+ghost use Rattle.machine.specs.declared.state.Ending.TheVariants.{Halted, Stopped};
 ghost use Rattle.script.specs.Reports.{none_yet, noted};
 
 use machine::Ending;
@@ -22,22 +23,23 @@ impl Report {
         }
     }
 
-    // The report after one more run. No count passes the end of its type.
-    pub(crate) fn with(self, ending: Ending, spent: u32) -> Report
-        ensures { result ≡ noted self ending spent }
+    // Counts a run, and no count passes the end of its type.
+    pub(crate) fn note(&mut self, ending: Ending, spent: u32)
+        ensures is { self.new ≡ noted self.old ending spent }
+        ensures units { self.new.units ≡ min (self.old.units + spent) 18446744073709551615 }
+        ensures halted { self.new.halted ≡ elim ending [ Halted ↦ min (self.old.halted + 1) 4294967295 | Stopped _ _ ↦ self.old.halted ] }
+        ensures stopped { self.new.stopped ≡ elim ending [ Halted ↦ self.old.stopped | Stopped _ _ ↦ min (self.old.stopped + 1) 4294967295 ] }
     {
-        let units = self.units.saturating_add(spent as u64);
         match ending {
-            Ending::Halted => Report {
-                halted: self.halted.saturating_add(1),
-                stopped: self.stopped,
-                units,
-            },
-            Ending::Stopped(_, _) => Report {
-                halted: self.halted,
-                stopped: self.stopped.saturating_add(1),
-                units,
-            },
+            Ending::Halted => self.halted = self.halted.saturating_add(1),
+            Ending::Stopped(_, _) => self.stopped = self.stopped.saturating_add(1),
         }
+        self.units = self.units.saturating_add(spent as u64);
+    }
+
+    pub(crate) fn runs(&self) -> u64
+        ensures { result ≡ self.now.halted + self.now.stopped }
+    {
+        self.halted as u64 + self.stopped as u64
     }
 }

@@ -117,7 +117,7 @@ fn run_from<N: Notation>(
     );
     let spent = before.budget.saturating_sub(registers.budget);
     session.registers = Some(registers);
-    session.report = session.report.with(ending, spent);
+    session.report.note(ending, spent);
     let line = texts::run_line(heap, ending, registers, spent)?;
     session.output.push_str(line.as_str())
 }

@@ -69,12 +69,12 @@ pub(crate) fn run_line(
 pub(crate) fn report_line(heap: Global, report: Report) -> Result<String, AllocError>
     ensures { IfOk result (λ s. string_bytes s ≡ report_line report) }
 {
+    let runs = report.runs();
     let Report {
         halted,
         stopped,
         units,
     } = report;
-    let runs = halted as u64 + stopped as u64;
     format!(in heap;
         "report: {runs} runs, {halted} halted, {stopped} stopped, {units} units spent\n"
     )
