@@ -1,12 +1,10 @@
 -- A run is the chain of its steps. Assumes nothing.
 use Rattle.std.proofs.Common.{◌≡◌, ℕ, zero, suc, ◌+◌, ◌≤◌, List, Some, Ok, Err, Result, unwrap_or, sym, refl, ap, ◌∙◌, subst, le_refl, arith}
 use Rattle.reckoning.specs.Meaning.{Meaning}
-use Rattle.machine.specs.declared.state.Ending.{Ending}
-use Rattle.machine.specs.declared.state.Ending.TheVariants.{Halted}
+use Rattle.machine.specs.Endings.{Ending, halted}
 use Rattle.machine.specs.Instructions.{State}
 use Rattle.machine.specs.Runs.{price, Chain, here, more, Ran, Alone, run_for, enough, run}
-use Rattle.machine.specs.declared.state.Step.TheVariants.{Ended}
-use Rattle.machine.specs.Seen.{stepped}
+use Rattle.machine.specs.Seen.{last, stepped}
 use Rattle.machine.specs.Steps.{step}
 use Rattle.machine.proofs.Endings.{ended_is}
 use Rattle.machine.proofs.Progress.{step_spends, step_falls}
@@ -56,7 +54,7 @@ module _ {Cell : Type 0} (m : Meaning Cell) (code places : List ℕ) where
 
   run_is : (t : State Cell) → run m code places t ≡ ((ended t).end, (ended t).at)
   unfolding run
-  run_is t = ap (λ o. unwrap_or o (Halted, t)) (ended t).found
+  run_is t = ap (λ o. unwrap_or o (halted, t)) (ended t).found
 
   ran : (t : State Cell) → Ran m code places t (run m code places t).0 (run m code places t).1
   ran t = rw run_is (ended t).ran
@@ -80,7 +78,7 @@ module _ {Cell : Type 0} (m : Meaning Cell) (code places : List ℕ) where
   told t e u is = subst (λ r. Ran m code places t r.0 r.1 × Alone m code places t r.0 r.1) (sym is) (ran t, alone t)
 
   -- a run that has come from t to u, where a step ends it
-  pub finished : (t u v : State Cell) (e : Ending) → run m code places u ≡ run m code places t → (Ended e, v) ≡ stepped u (step m code places u) → (e, v) ≡ run m code places t
+  pub finished : (t u v : State Cell) (e : Ending) → run m code places u ≡ run m code places t → (last e, v) ≡ stepped u (step m code places u) → (e, v) ≡ run m code places t
   finished t u v e same last =
       let x = ended_is u v (step m code places u) e last in
       ap (λ w. (e, w)) x.1 ∙ sym (run_end u e x.0) ∙ same

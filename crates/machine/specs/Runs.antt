@@ -4,8 +4,7 @@ use Rattle.std.specs.Option.{unwrap_or}
 use Rattle.reckoning.specs.Meaning.{Meaning}
 use Rattle.instructions.specs.declared.Instruction.{Instruction}
 use Rattle.instructions.specs.declared.Instruction.TheVariants.{Halt, LoadConstant, LoadRelative, Load, Store, Pop, Operate, Negate, Not, Jump, JumpZero, Mark, Call, Enter, Allocate, Return, Check}
-use Rattle.machine.specs.declared.state.Ending.{Ending}
-use Rattle.machine.specs.declared.state.Ending.TheVariants.{Halted}
+use Rattle.machine.specs.Endings.{Ending, halted}
 use Rattle.instructions.specs.declared.Stop.{Stop}
 use Rattle.machine.specs.Instructions.{State}
 use Rattle.machine.specs.Steps.{fetched, step}
@@ -72,4 +71,4 @@ module _ {Cell : Type 0} (m : Meaning Cell) (code places : List ℕ) where
   enough t = (2 * t.0.budget + t.0.active) * (length code + 1) + (length code - address_of t.0.pc) + 1
 
   unfoldable pub run : State Cell → Ending × State Cell
-  run t = unwrap_or (run_for (enough t) t) (Halted, t)
+  run t = unwrap_or (run_for (enough t) t) (halted, t)

@@ -1,11 +1,10 @@
 -- What a caller sees of a call that changes something in place or stops: its answer, and the thing, which a stop leaves as it was. Assumes nothing.
 use Rattle.std.specs.Prelude.{Some, None, Ok, Err, Option, Result}
-use Rattle.machine.specs.declared.state.Ending.{Ending}
 use Rattle.machine.specs.declared.state.Flow.{Flow}
 use Rattle.machine.specs.declared.state.Flow.TheVariants.{Onward, Halts}
-use Rattle.machine.specs.declared.state.Step.{Step}
-use Rattle.machine.specs.declared.state.Step.TheVariants.{Next, Ended}
+use Rattle.machine.specs.declared.state.Stopped.{Stopped}
 use Rattle.instructions.specs.declared.Stop.{Stop}
+use Rattle.machine.specs.Endings.{Ending}
 
 abbrev pub after : {X : Type 0} → X → Result X Stop → Result (Unit {0}) Stop × X
 after x (Ok y) = (Ok tt, y)
@@ -26,7 +25,11 @@ flowed x (Ok (Some y)) = (Ok Onward, y)
 flowed x (Ok None) = (Ok Halts, x)
 flowed x (Err e) = (Err e, x)
 
--- The same of a step.
-abbrev pub stepped : {X : Type 0} → X → Result X Ending → Step × X
-stepped x (Ok y) = (Next, y)
-stepped x (Err e) = (Ended e, x)
+-- The same of a step, at which the run may end.
+abbrev pub last : Ending → Result Flow Stopped
+last (Ok u) = Ok Halts
+last (Err s) = Err s
+
+abbrev pub stepped : {X : Type 0} → X → Result X Ending → Result Flow Stopped × X
+stepped x (Ok y) = (Ok Onward, y)
+stepped x (Err e) = (last e, x)

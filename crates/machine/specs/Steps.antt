@@ -5,8 +5,7 @@ use Rattle.std.specs.List.{slice_get}
 use Rattle.reckoning.specs.Meaning.{Meaning}
 use Rattle.instructions.specs.declared.Instruction.{Instruction}
 use Rattle.instructions.specs.declared.Instruction.TheVariants.{Halt, LoadConstant, LoadRelative, Load, Store, Pop, Operate, Negate, Not, Jump, JumpZero, Mark, Call, Enter, Allocate, Return, Check}
-use Rattle.machine.specs.declared.state.Ending.{Ending}
-use Rattle.machine.specs.declared.state.Ending.TheVariants.{Halted, Stopped}
+use Rattle.machine.specs.Endings.{Ending, halted, stopped}
 use Rattle.machine.specs.declared.state.Registers.{Registers}
 use Rattle.instructions.specs.declared.Stop.{Stop}
 use Rattle.instructions.specs.declared.Stop.TheVariants.{Broken}
@@ -35,8 +34,8 @@ module _ {Cell : Type 0} where
   -- A step gives the next state, or the end of the run.
   abbrev pub outcome : ℕ → Result (Option (State Cell)) Stop → Result (State Cell) Ending
   outcome place (Ok (Some t)) = Ok t
-  outcome place (Ok None) = Err Halted
-  outcome place (Err e) = Err (Stopped e place)
+  outcome place (Ok None) = Err halted
+  outcome place (Err e) = Err (stopped e place)
 
 module _ {Cell : Type 0} (m : Meaning Cell) where
   -- What an instruction does once the program counter is past it: the state after it, or none where the machine halts.

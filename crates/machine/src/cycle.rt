@@ -6,27 +6,21 @@ ghost use Rattle.machine.specs.Steps.{beside, perform, act, step};
 
 use crate::effects::*;
 use crate::memory::{raised, read};
-use crate::state::{Ending, Flow, Registers, Step};
+use crate::state::{Flow, Registers, Stopped};
 use instructions::{Stop, operand_of};
 use reckoning::{Comparison, Operator, Reckoning};
 
 fn place_beside(places: &[u32], pc: i32) -> u32
     ensures { result ≡ beside places.now pc }
 {
-    match read(places, pc) {
-        Ok(place) => place,
-        Err(_) => 0,
-    }
+    read(places, pc).unwrap_or(0)
 }
 
 // The machine goes on after an instruction that does not stop.
 fn onward(answer: Result<(), Stop>) -> Result<Flow, Stop>
     ensures { result ≡ going_on answer }
 {
-    match answer {
-        Ok(()) => Ok(Flow::Onward),
-        Err(stop) => Err(stop),
-    }
+    answer.map(|()| Flow::Onward)
 }
 
 // The instructions with the highest numbers.
@@ -110,14 +104,13 @@ pub fn step<R: Reckoning>(
     places: &[u32],
     registers: &mut Registers,
     store: &mut [R::Cell],
-) -> Step
+) -> Result<Flow, Stopped>
     ensures { (result, (registers.new, store.new)) ≡ stepped (registers.old, store.old) (step R.Reckoning.meaning code.now places.now (registers.old, store.old)) }
 {
-    match act::<R>(code, registers, store) {
-        Ok(Flow::Onward) => Step::Next,
-        Ok(Flow::Halts) => Step::Ended(Ending::Halted),
-        Err(stop) => Step::Ended(Ending::Stopped(stop, place_beside(places, registers.pc))),
-    }
+    act::<R>(code, registers, store).map_err(|stop| Stopped {
+        stop,
+        place: place_beside(places, registers.pc),
+    })
 }
 
 // Runs from these registers to the first halt or stop, and leaves registers and store as they then are.
@@ -126,7 +119,7 @@ pub fn run<R: Reckoning>(
     places: &[u32],
     registers: &mut Registers,
     store: &mut [R::Cell],
-) -> Ending
+) -> Result<(), Stopped>
     ensures is { (result, (registers.new, store.new)) ≡ run R.Reckoning.meaning code.now places.now (registers.old, store.old) }
     ensures ran { Ran R.Reckoning.meaning code.now places.now (registers.old, store.old) result (registers.new, store.new) }
     ensures alone { Alone R.Reckoning.meaning code.now places.now (registers.old, store.old) result (registers.new, store.new) }
@@ -138,13 +131,13 @@ pub fn run<R: Reckoning>(
                 Flow::Onward => {}
                 Flow::Halts => {
                     *registers = current;
-                    return Ending::Halted;
+                    return Ok(());
                 }
             },
             Err(stop) => {
                 let place = place_beside(places, current.pc);
                 *registers = current;
-                return Ending::Stopped(stop, place);
+                return Err(Stopped { stop, place });
             }
         }
     }

@@ -7,4 +7,4 @@ mod memory;
 mod state;
 
 pub use cycle::{run, step};
-pub use state::{Ending, Registers, Step};
+pub use state::{Flow, Registers, Stopped};

@@ -12,22 +12,15 @@ pub struct Registers {
     pub budget: u32,
 }
 
-// How a run ends: the machine halts, or stops at a place of the text.
+// Why a run stops, and at which place of the text.
 #[derive(Clone, Copy)]
-pub enum Ending {
-    Halted,
-    Stopped(Stop, u32),
-}
-
-// A step leads on to a next state, or ends the run.
-#[derive(Clone, Copy)]
-pub enum Step {
-    Next,
-    Ended(Ending),
+pub struct Stopped {
+    pub stop: Stop,
+    pub place: u32,
 }
 
 // Whether the machine goes on after an instruction.
-#[derive(Clone, Copy)]
+#[derive(Clone, Copy, Debug, PartialEq, Eq)]
 pub enum Flow {
     Onward,
     Halts,
