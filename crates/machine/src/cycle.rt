@@ -1,5 +1,5 @@
 // The cycle of the machine: fetch a word, raise the program counter, execute.
-ghost use Rattle.std.specs.Prelude.{◌≡◌, ◌≤◌};
+ghost use Rattle.std.specs.Prelude.{◌≡◌};
 ghost use Rattle.machine.specs.Runs.{run, Ran, Alone};
 ghost use Rattle.machine.specs.Seen.{going_on, flowed, stepped};
 ghost use Rattle.machine.specs.Steps.{beside, perform, act, step};
@@ -21,24 +21,6 @@ fn onward(answer: Result<(), Stop>) -> Result<Flow, Stop>
     ensures { result ≡ going_on answer }
 {
     answer.map(|()| Flow::Onward)
-}
-
-// The instructions with the highest numbers.
-fn perform_last<R: Reckoning>(
-    number: u32,
-    operand: i32,
-    r: &mut Registers,
-    store: &mut [R::Cell],
-) -> Result<Flow, Stop>
-    requires { 24 ≤ number }
-    ensures { (result, (r.new, store.new)) ≡ flowed (r.old, store.old) (perform R.Reckoning.meaning number operand r.old store.old) }
-{
-    match number {
-        24 => onward(allocate::<R>(operand, r, store)),
-        25 => onward(leave::<R>(r, store)),
-        26 => onward(check::<R>(operand, r, store)),
-        _ => Err(Stop::Broken),
-    }
 }
 
 // One case a number, so that a word is dispatched on once.
@@ -75,7 +57,10 @@ fn perform<R: Reckoning>(
         21 => onward(mark::<R>(r, store)),
         22 => onward(call::<R>(operand, r, store)),
         23 => onward(enter(operand, r, store)),
-        _ => perform_last::<R>(number, operand, r, store),
+        24 => onward(allocate::<R>(operand, r, store)),
+        25 => onward(leave::<R>(r, store)),
+        26 => onward(check::<R>(operand, r, store)),
+        _ => Err(Stop::Broken),
     }
 }
 

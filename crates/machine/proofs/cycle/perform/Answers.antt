@@ -1,9 +1,10 @@
-use Rattle.std.proofs.Common.{refl, w32, SFits}
+use Rattle.std.proofs.Common.{◌≤◌, sym, ap, refl, w32, SFits, arith}
 use Rattle.std.proofs.lemmas.Int.{to_z-of_z}
 use Rattle.reckoning.specs.declared.Comparison.TheVariants.{Equal, NotEqual, Less, AtMost, Greater, AtLeast}
 use Rattle.reckoning.specs.declared.Operator.TheVariants.{Add, Subtract, Multiply, Divide, Remainder, Compare}
 use Rattle.machine.specs.Instructions.{push, relative, load, store_top, pop, binary, negate, invert, jump, branch, mark, call, enter}
-use Rattle.machine.proofs.Endings.{performs, performs_kept}
+use Rattle.machine.specs.Seen.{flowed}
+use Rattle.machine.proofs.Endings.{performs, performs_kept, perform_past}
 use Rattle.machine.proofs.cycle.perform.Goals as goal
 
 pub returns-in-1 : goal.returns-in-1
@@ -103,3 +104,8 @@ pub returns-in-23 : goal.returns-in-23
 returns-in-23 g c =
     let f : SFits w32 c.args.operand = c.ranges.operand in
     performs_kept g.R.Reckoning.meaning 23 c.args.operand c.in-23.is c.args.r.now _ c.args.store.now (enter c.args.operand c.args.r.now c.args.store.now) _ _ refl (simp to_z-of_z at c.enter.ensures) c.onward-in-23.ensures
+
+pub returns-in_default : goal.returns-in_default
+returns-in_default g c =
+    let past : 27 ≤ c.args.number = omega arith in
+    sym (ap (flowed (c.args.r.now, c.args.store.now)) (perform_past g.R.Reckoning.meaning c.args.number c.args.operand c.args.r.now c.args.store.now past))
