@@ -1,11 +1,11 @@
 -- From a run to the answer of a call, and from what a run tells to what an answer says. Assumes nothing.
-use Rattle.std.proofs.Common.{◌≡◌, ℕ, zero, suc, ◌+◌, ◌-◌, ◌<◌, ◌≤◌, Bool, true, false, cond, ◌&&◌, List, [], ◌∷◌, length, get_or, Some, None, Option, sym, ap, ◌∙◌, subst, arith, le-leb}
+use Rattle.std.proofs.Common.{◌≡◌, ℕ, zero, suc, ◌+◌, ◌-◌, ◌<◌, ◌≤◌, Bool, true, false, cond, ◌&&◌, List, [], ◌∷◌, length, get_or, Some, None, Ok, Err, Option, Result, sym, ap, ◌∙◌, subst, arith, le-leb}
 use Rattle.std.specs.List.{slice_get}
 use Rattle.std.proofs.lemmas.List.{get_or_read}
 use Rattle.reckoning.specs.Meaning.{Meaning, Laws, largest}
-use Rattle.machine.specs.declared.Ending.{Ending}
-use Rattle.machine.specs.declared.Ending.TheVariants.{Halted, Stopped as Stops}
+use Rattle.machine.specs.Endings.{Ending}
 use Rattle.machine.specs.declared.Registers.{Registers}
+use Rattle.machine.specs.declared.Stopped.{Stopped}
 use Rattle.machine.specs.Instructions.{State}
 use Rattle.machine.specs.Runs.{run}
 use Rattle.language.specs.Reading.{Outcome, gives, stops, reading}
@@ -15,7 +15,6 @@ use Rattle.meaning.specs.Agreement.{cells, started, Tells}
 use Rattle.meaning.proofs.Loading.{starts_small, all_nth}
 use Rattle.meaning.proofs.Theorem.{agreement}
 use Rattle.calling.specs.declared.calls.Answer.{Answer}
-use Rattle.calling.specs.declared.calls.Answer.TheVariants.{Value}
 use Rattle.calling.specs.Calls.{room, addressed, answered, begun, concluded, called, Answers, Agrees}
 
 nth_is : {X : Type 0} (xs : List X) (i : ℕ) (x d : X) → slice_get xs i ≡ Some x → get_or xs i d ≡ x
@@ -28,11 +27,14 @@ module _ {Cell : Type 0} (m : Meaning Cell) (g budget : ℕ) where
       → (Some a, t.1) ≡ concluded m g budget (e, t)
   concludes e t v a low is same = ap (λ b. (Some b, t.1)) (same ∙ ap (λ w. answered e w (budget - t.0.budget)) (get_or_read t.1 (g + 1) v low is (m.whole 0)))
 
+  abbrev answer : Result Cell Stopped → ℕ → Answer Cell
+  answer value spent = record { value = value; spent = spent }
+
   told : (o : Outcome Cell Cell) (ran : Ending × State Cell) → Tells g o ran → Answers g budget o (concluded m g budget ran)
-  told (gives v h) (Halted, t) tells = (ap Some (ap (λ w. Value w (budget - t.0.budget)) (nth_is t.1 (g + 1) v (m.whole 0) tells.0) ∙ ap (λ b. Value v (budget - b)) tells.2), tells.1)
-  told (gives v h) (Stops e p, t) tells = absurd tells
-  told (stops e p c b) (Halted, t) tells = absurd tells
-  told (stops e p c b) (Stops d q, t) tells = (ap Some (cc (tells.0, tells.1, tells.4)), tells.3)
+  told (gives v h) (Ok u, t) tells = (ap Some (ap (λ w. answer (Ok w) (budget - t.0.budget)) (nth_is t.1 (g + 1) v (m.whole 0) tells.0) ∙ ap (λ b. answer (Ok v) (budget - b)) tells.2), tells.1)
+  told (gives v h) (Err f, t) tells = absurd tells
+  told (stops e p c b) (Ok u, t) tells = absurd tells
+  told (stops e p c b) (Err f, t) tells = (ap Some (λ i. answer (Err (record { stop = tells.0 i; place = tells.1 i })) (budget - tells.4 i)), tells.3)
 
 module _ {Cell : Type 0} (m : Meaning Cell) (words places : List ℕ) (start g : ℕ) (xs : List Cell) (budget : ℕ) (store : List Cell) where
   abbrev first : State Cell

@@ -1,9 +1,8 @@
 -- What a call of a function comes to, and that it is what the reading of the function says. Assumes nothing.
-use Rattle.std.specs.Prelude.{◌≡◌, ℕ, ◌+◌, ◌-◌, ◌≤◌, Bool, cond, ◌&&◌, List, ◌∷◌, ◌++◌, length, take, drop, Some, None, Option, nat_le, slice_index, slice_index_or}
+use Rattle.std.specs.Prelude.{◌≡◌, ℕ, ◌+◌, ◌-◌, ◌≤◌, Bool, cond, ◌&&◌, List, ◌∷◌, ◌++◌, length, take, drop, Some, None, Ok, Err, Option, nat_le, slice_index, slice_index_or}
 use Rattle.std.specs.List.{slice_get}
 use Rattle.reckoning.specs.Meaning.{Meaning, largest}
-use Rattle.machine.specs.declared.Ending.{Ending}
-use Rattle.machine.specs.declared.Ending.TheVariants.{Halted, Stopped as Stops}
+use Rattle.machine.specs.Endings.{Ending}
 use Rattle.machine.specs.declared.Registers.{Registers}
 use Rattle.machine.specs.Instructions.{State}
 use Rattle.machine.specs.Runs.{run}
@@ -16,7 +15,6 @@ use Rattle.translation.specs.Limits.{Compact}
 use Rattle.translation.specs.Translation.{code, starts}
 use Rattle.meaning.specs.Agreement.{Begins, cells, started}
 use Rattle.calling.specs.declared.calls.Answer.{Answer}
-use Rattle.calling.specs.declared.calls.Answer.TheVariants.{Value, Stopped}
 
 -- There is room above cell g for the frame of a function with so many arguments.
 abbrev pub room : ℕ → ℕ → ℕ → Bool
@@ -32,8 +30,8 @@ framed_where empty g xs store = cond (room g (length xs) (length store)) (Some t
 
 -- What a call answers: from how the run ends, what the result's cell then holds, and the units spent.
 abbrev pub answered : {Cell : Type 0} → Ending → Cell → ℕ → Answer Cell
-answered Halted v spent = Value v spent
-answered (Stops e p) v spent = Stopped e p spent
+answered (Ok u) v spent = record { value = Ok v; spent = spent }
+answered (Err s) v spent = record { value = Err s; spent = spent }
 
 module _ {Cell : Type 0} (m : Meaning Cell) where
   -- The registers of a call, and the store with its first frame, where there can be one.
@@ -50,8 +48,8 @@ module _ {Cell : Type 0} (m : Meaning Cell) where
 
 -- An answer is what a reading says: its value, or its stop at its place, and the units that it spent. The store then has the sheet's cells as the reading leaves them.
 abbrev pub Answers : {Cell : Type 0} → ℕ → ℕ → Outcome Cell Cell → Option (Answer Cell) × List Cell → Type 0
-Answers g budget (gives v h) (answer, store) = (answer ≡ Some (Value v (budget - h.budget))) × (cells g store ≡ h.sheet)
-Answers g budget (stops e p c b) (answer, store) = (answer ≡ Some (Stopped e p (budget - b))) × (cells g store ≡ c)
+Answers g budget (gives v h) (answer, store) = (answer ≡ Some (record { value = Ok v; spent = budget - h.budget })) × (cells g store ≡ h.sheet)
+Answers g budget (stops e p c b) (answer, store) = (answer ≡ Some (record { value = Err (record { stop = e; place = p }); spent = budget - b })) × (cells g store ≡ c)
 
 -- For every sheet whose names resolve and that is within the limits, where the code list and the place list begin with its translation and the store has 8,192 to 16,384 cells:
 -- the call of a function of the sheet, with as many arguments as it has parameters, answers what the function's reading says.

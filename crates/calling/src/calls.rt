@@ -1,15 +1,14 @@
 ghost use Rattle.std.specs.Prelude.{◌≡◌};
 ghost use Rattle.calling.specs.Calls.{framed_where, begun, answered, called, Agrees};
 
-use instructions::Stop;
-use machine::{Ending, Registers, run};
+use machine::{Registers, Stopped, run};
 use reckoning::Reckoning;
 
-// What a call of a function comes to: its value, or a stop at a place of the text; then the units that it spent.
+// What a call of a function comes to: its value, or a stop at a place of the text; and the units that it spent.
 #[derive(Clone, Copy)]
-pub enum Answer<C> {
-    Value(C, u32),
-    Stopped(Stop, u32, u32),
+pub struct Answer<C> {
+    pub value: Result<C, Stopped>,
+    pub spent: u32,
 }
 
 // Writes the first frame above cell `cells`, if there is room for it: the result's cell and what a call would save, each
@@ -21,10 +20,7 @@ fn write_frame<C: Copy>(store: &mut [C], cells: usize, empty: C, arguments: &[C]
         return None;
     }
     let first = cells + 5;
-    store[cells + 1] = empty;
-    store[cells + 2] = empty;
-    store[cells + 3] = empty;
-    store[cells + 4] = empty;
+    store[cells + 1..first].copy_from_slice(&[empty; 4]);
     store[first..first + arguments.len()].copy_from_slice(arguments);
     Some(())
 }
@@ -55,12 +51,12 @@ fn begin<R: Reckoning>(
     })
 }
 
-fn conclude<C: Copy>(ending: Ending, outcome: C, spent: u32) -> Answer<C>
+fn conclude<C: Copy>(ending: Result<(), Stopped>, outcome: C, spent: u32) -> Answer<C>
     ensures { result ≡ answered ending outcome spent }
 {
-    match ending {
-        Ending::Halted => Answer::Value(outcome, spent),
-        Ending::Stopped(stop, place) => Answer::Stopped(stop, place, spent),
+    Answer {
+        value: ending.map(|()| outcome),
+        spent,
     }
 }
 

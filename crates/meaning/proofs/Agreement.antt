@@ -12,7 +12,7 @@ use Rattle.reckoning.specs.declared.Stop.{Stop as ReckoningStop}
 use Rattle.instructions.specs.declared.Instruction.TheVariants.{LoadConstant, LoadRelative, Load, Store, Pop, Operate, Negate, Not, Jump, JumpZero, Mark, Call, Enter, Allocate, Return, Check}
 use Rattle.instructions.specs.declared.Stop.{Stop}
 use Rattle.instructions.specs.declared.Stop.TheVariants.{Index, Budget, Depth, Reckoned}
-use Rattle.machine.specs.declared.Ending.TheVariants.{Stopped}
+use Rattle.machine.specs.Endings.{stopped as ends}
 use Rattle.machine.specs.Instructions.{State, ◌>>=◌, cell, put, admitted}
 use Rattle.machine.specs.Steps.{execute, outcome, step, goes}
 use Rattle.language.specs.Resolved.{Region, on_sheet, in_frame, Expression, constant, value, assignment, invocation, negation, inversion, operation, Subscripts, whole_of, subscript, Arguments, none, also, arity, Statement, perform, sequence, give, when, either, repeat, Statements, finish, first as then_do, Routine}
@@ -30,7 +30,7 @@ module _ {Cell : Type 0} (m : Meaning Cell) (laws : Laws m) (words places : List
 
   -- A run that stops so, with these cells and this budget, is good.
   abbrev pub Fails : Stop → ℕ → List Cell → ℕ → Type 0
-  Fails e p c b = (t : State Cell) → take g (drop 1 t.1) ≡ c → t.0.budget ≡ b → step m words places t ≡ Err (Stopped e p) → Good t
+  Fails e p c b = (t : State Cell) → take g (drop 1 t.1) ≡ c → t.0.budget ≡ b → step m words places t ≡ Err (ends e p) → Good t
 
   pub onward : (pc sp fp ep a b : ℕ) (s : List Cell) (l : Line) (t : State Cell) → pc ≤ largest → Has words places pc l → execute m l.0 (regs (pc + 1) sp fp ep a b) s ≡ Ok (Some t) → Good t → Good (regs pc sp fp ep a b, s)
   onward pc sp fp ep a b s l t low has is good = next _ t (step_at pc sp fp ep a b s l low has ∙ ap (outcome l.1) is) good

@@ -4,7 +4,7 @@ use Rattle.std.specs.List.{slice_get}
 use Rattle.std.proofs.lemmas.List.{length-take-le, length-drop, take_at}
 use Rattle.reckoning.specs.Meaning.{Meaning, Laws}
 use Rattle.instructions.specs.declared.Instruction.TheVariants.{Halt}
-use Rattle.machine.specs.declared.Ending.TheVariants.{Halted, Stopped}
+use Rattle.machine.specs.Endings.{halted, stopped}
 use Rattle.machine.specs.Instructions.{State}
 use Rattle.machine.specs.Steps.{step}
 use Rattle.machine.specs.Runs.{run}
@@ -39,13 +39,13 @@ module _ {Cell : Type 0} (m : Meaning Cell) (laws : Laws m) (words places : List
   told : (o : Outcome Cell Cell) → Clean o → Meets m laws words places (Good m laws words places g o) (next m laws words places g o) g o (Answered m laws words places (Good m laws words places g o) (next m laws words places g o) g k above first [] 0 0 0 0)
   told (gives v h) clean = λ sheet_long low rest long_rest.
       let t : State Cell = exit m laws words places (Good m laws words places g (gives v h)) (next m laws words places g (gives v h)) g first [] 0 0 0 0 v h rest in
-      let last : step m words places t ≡ Err Halted = step_at m laws words places (Good m laws words places g (gives v h)) (next m laws words places g (gives v h)) g 0 _ _ _ _ _ _ (Halt, 0) (omega arith) halts in
-      subst (Tells g (gives v h)) (sym (run_end m words places t Halted last)) (
+      let last : step m words places t ≡ Err halted = step_at m laws words places (Good m laws words places g (gives v h)) (next m laws words places g (gives v h)) g 0 _ _ _ _ _ _ (Halt, 0) (omega arith) halts in
+      subst (Tells g (gives v h)) (sym (run_end m words places t halted last)) (
         ap (slice_get (first ∷ (h.sheet ++ (v ∷ rest)))) (let e : g + 1 ≡ suc (length h.sheet + 0) = omega arith in e) ∙ nth_past_seam h.sheet (v ∷ rest) 0,
         take_at h.sheet (v ∷ rest) g sheet_long,
         refl,
       )
-  told (stops e p c b) clean = λ t shows left last. subst (Tells g (stops e p c b)) (sym (run_end m words places t (Stopped e p) last)) (refl, refl, clean, shows, left)
+  told (stops e p c b) clean = λ t shows left last. subst (Tells g (stops e p c b)) (sym (run_end m words places t (stopped e p) last)) (refl, refl, clean, shows, left)
 
 module _ {Cell : Type 0} (m : Meaning Cell) (laws : Laws m) where
   begun : (g : ℕ) (xs : List Cell) (first : Cell) (rest : List Cell) → first ∷ (take g rest ++ (m.whole 0 ∷ m.whole 0 ∷ m.whole 0 ∷ m.whole 0 ∷ (xs ++ drop (g + 5 + length xs) (first ∷ rest)))) ≡ framed m g xs (first ∷ rest)

@@ -1,10 +1,9 @@
 -- Translation and reading agree: the code of a sheet does on the machine what its reading says. Assumes nothing.
-use Rattle.std.specs.Prelude.{◌≡◌, ℕ, ◌+◌, ◌≤◌, List, ◌∷◌, ◌++◌, length, take, drop, pos, Some, slice_index}
+use Rattle.std.specs.Prelude.{◌≡◌, ℕ, ◌+◌, ◌≤◌, List, ◌∷◌, ◌++◌, length, take, drop, pos, Some, Ok, Err, slice_index}
 use Rattle.std.specs.List.{slice_get, AllByRecursion}
 use Rattle.reckoning.specs.Meaning.{Meaning}
 use Rattle.instructions.specs.Words.{encoded}
-use Rattle.machine.specs.declared.Ending.{Ending}
-use Rattle.machine.specs.declared.Ending.TheVariants.{Halted, Stopped}
+use Rattle.machine.specs.Endings.{Ending}
 use Rattle.machine.specs.Instructions.{State}
 use Rattle.machine.specs.Runs.{run}
 use Rattle.language.specs.Tree.{Sheet}
@@ -36,10 +35,10 @@ module _ {Cell : Type 0} (m : Meaning Cell) where
 -- A run halts with the value of a reading, on top of the sheet's cells, or stops as the reading does, at its place, and never for broken code or want of cells.
 -- The sheet's cells are then those of the reading, and so is the budget left: the run spends what the reading counts.
 abbrev pub Tells : {Cell : Type 0} → ℕ → Outcome Cell Cell → Ending × State Cell → Type 0
-Tells g (gives v h) (Halted, t) = (slice_get t.1 (g + 1) ≡ Some v) × (cells g t.1 ≡ h.sheet) × (t.0.budget ≡ h.budget)
-Tells g (gives v h) (Stopped e p, t) = ⊥
-Tells g (stops e p c b) (Halted, t) = ⊥
-Tells g (stops e p c b) (Stopped d q, t) = (d ≡ e) × (q ≡ p) × Ordinary d × (cells g t.1 ≡ c) × (t.0.budget ≡ b)
+Tells g (gives v h) (Ok u, t) = (slice_get t.1 (g + 1) ≡ Some v) × (cells g t.1 ≡ h.sheet) × (t.0.budget ≡ h.budget)
+Tells g (gives v h) (Err f, t) = ⊥
+Tells g (stops e p c b) (Ok u, t) = ⊥
+Tells g (stops e p c b) (Err f, t) = (f.stop ≡ e) × (f.place ≡ p) × Ordinary f.stop × (cells g t.1 ≡ c) × (t.0.budget ≡ b)
 
 -- For every sheet whose names resolve and that is within the limits, every code list and place list that begin with its translation, every store of 8,192 to 16,384 cells,
 -- every function, fitting arguments and budget: the run of the function's code tells what its reading says.
