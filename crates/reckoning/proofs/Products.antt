@@ -1,11 +1,11 @@
 -- The product of two 32-bit numbers, and each quotient of it, fits 64 bits. Assumes nothing.
-use Rattle.std.proofs.Common.{◌≡◌, ℕ, zero, suc, ◌*◌, ◌/◌, ◌^◌, ◌≤◌, ℤ, pos, negsuc, ◌*ℤ◌, neg_ℤ, nat_abs, refl, ap, ◌∙◌, mul-le-mul, div-le_self, arith, to_z-of_z, w32, w64, SFits, to_z, of_z}
+use Rattle.std.proofs.Common.{◌≡◌, ℕ, zero, suc, ◌*◌, ◌/◌, ◌^◌, ◌≤◌, ℤ, pos, negsuc, ◌*ℤ◌, neg_ℤ, nat_abs, refl, mul-le-mul, div-le_self, arith, to_z-of_z, w32, w64, SFits, to_z, of_z}
 use lib.Signed.{quot_z, nat_abs-le}
 use mir.Facts.{sfits_widen}
 
 -- a 32-bit number is the same number in 64 bits
-pub widened : {z : ℤ} → SFits w32 z → to_z w64 (of_z w64 (to_z w32 (of_z w32 z))) ≡ z
-widened f = ap (λ (y : ℤ). to_z w64 (of_z w64 y)) (to_z-of_z f) ∙ to_z-of_z {w = w64} (sfits_widen {w = w32} tt f)
+pub widened : {z : ℤ} → SFits w32 z → to_z w64 (of_z w64 z) ≡ z
+widened f = to_z-of_z {w = w64} (sfits_widen {w = w32} tt f)
 
 -- how far a number lies from zero
 far_fits : (z : ℤ) → nat_abs z ≤ 2 ^ 62 → SFits w64 z

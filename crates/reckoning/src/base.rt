@@ -2,7 +2,7 @@ ghost use Rattle.std.specs.Prelude.{◌≡◌, ◌≤◌};
 ghost use Rattle.reckoning.specs.Meaning.{Meaning, Laws, number, holds, applied};
 
 // Why an operation gives no cell: each case has one of the numbers 45 to 59. Those after 46 are kept for further reckonings.
-#[derive(Clone, Copy)]
+#[derive(Clone, Copy, Debug, PartialEq, Eq)]
 pub enum Stop {
     OutOfRange = 45,
     ZeroDivisor = 46,
@@ -30,7 +30,7 @@ impl Stop {
     }
 }
 
-#[derive(Clone, Copy)]
+#[derive(Clone, Copy, Debug, PartialEq, Eq)]
 pub enum Comparison {
     Equal,
     NotEqual,
@@ -56,7 +56,7 @@ impl Comparison {
 }
 
 // The operators that take two cells.
-#[derive(Clone, Copy)]
+#[derive(Clone, Copy, Debug, PartialEq, Eq)]
 pub enum Operator {
     Add,
     Subtract,

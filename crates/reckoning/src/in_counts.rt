@@ -16,46 +16,30 @@ impl Reckoning for Counts {
     ghost lawful = { Prim.search rules };
 
     fn whole(n: u16) -> i32 {
-        n as i32
+        i32::from(n)
     }
 
     fn place(cell: i32) -> Option<u16> {
-        if cell >= 0 && cell <= 16_383 {
-            Some(cell as u16)
-        } else {
-            None
-        }
+        u16::try_from(cell).ok().filter(|&cell| cell <= 16_383)
     }
 
     fn add(left: i32, right: i32) -> Result<i32, Stop> {
-        match wide::narrow(wide::sum(left, right), i32::MIN, i32::MAX) {
-            Some(sum) => Ok(sum),
-            None => Err(Stop::OutOfRange),
-        }
+        wide::narrow(wide::sum(left, right), i32::MIN, i32::MAX).ok_or(Stop::OutOfRange)
     }
 
     fn subtract(left: i32, right: i32) -> Result<i32, Stop> {
-        match wide::narrow(wide::difference(left, right), i32::MIN, i32::MAX) {
-            Some(difference) => Ok(difference),
-            None => Err(Stop::OutOfRange),
-        }
+        wide::narrow(wide::difference(left, right), i32::MIN, i32::MAX).ok_or(Stop::OutOfRange)
     }
 
     fn multiply(left: i32, right: i32) -> Result<i32, Stop> {
-        match wide::narrow(wide::product(left, right), i32::MIN, i32::MAX) {
-            Some(product) => Ok(product),
-            None => Err(Stop::OutOfRange),
-        }
+        wide::narrow(wide::product(left, right), i32::MIN, i32::MAX).ok_or(Stop::OutOfRange)
     }
 
     fn divide(left: i32, right: i32) -> Result<i32, Stop> {
         if right == 0 {
             return Err(Stop::ZeroDivisor);
         }
-        match left.checked_div(right) {
-            Some(quotient) => Ok(quotient),
-            None => Err(Stop::OutOfRange),
-        }
+        left.checked_div(right).ok_or(Stop::OutOfRange)
     }
 
     fn remainder(left: i32, right: i32) -> Result<i32, Stop> {

@@ -15,7 +15,7 @@ const HIGHEST: i32 = 2_000_000_000;
 
 // A number of thousandths of a kilogram. It is made by a check, so that none lies outside the range;
 // one that did would count as the nearer end.
-#[derive(Clone, Copy)]
+#[derive(Clone, Copy, Debug, PartialEq, Eq)]
 pub struct Weight {
     thousandths: i32,
 }
@@ -25,28 +25,21 @@ impl Weight {
     pub fn new(thousandths: i64) -> Result<Weight, Stop>
         ensures { result ≡ weighed thousandths }
     {
-        match wide::narrow(thousandths, LOWEST, HIGHEST) {
-            Some(thousandths) => Ok(Weight { thousandths }),
-            None => Err(Stop::OutOfRange),
-        }
+        wide::narrow(thousandths, LOWEST, HIGHEST)
+            .map(|thousandths| Weight { thousandths })
+            .ok_or(Stop::OutOfRange)
     }
 
     pub fn thousandths(self) -> i32
         ensures { result ≡ nearest self }
     {
-        if self.thousandths < LOWEST {
-            LOWEST
-        } else if self.thousandths > HIGHEST {
-            HIGHEST
-        } else {
-            self.thousandths
-        }
+        self.thousandths.clamp(LOWEST, HIGHEST)
     }
 
     fn is_in_range(self) -> bool
         ensures { result ≡ within lowest highest self.thousandths }
     {
-        self.thousandths >= LOWEST && self.thousandths <= HIGHEST
+        (LOWEST..=HIGHEST).contains(&self.thousandths)
     }
 }
 
@@ -80,7 +73,7 @@ fn remainder(left: i32, right: i32) -> Result<Weight, Stop>
     if right == 0 {
         Err(Stop::ZeroDivisor)
     } else {
-        Weight::new(left.wrapping_rem(right) as i64)
+        Weight::new(i64::from(left.wrapping_rem(right)))
     }
 }
 
@@ -94,7 +87,7 @@ impl Reckoning for Weights {
     // At most 65,535,000 thousandths, which is in range.
     fn whole(n: u16) -> Weight {
         Weight {
-            thousandths: n as i32 * 1000,
+            thousandths: i32::from(n) * 1000,
         }
     }
 
@@ -111,18 +104,16 @@ impl Reckoning for Weights {
     // This and the difference are not made by Weight::new, for the reason that wide::narrow gives.
     fn add(left: Weight, right: Weight) -> Result<Weight, Stop> {
         let (left, right) = operands(left, right);
-        match wide::narrow(wide::sum(left, right), LOWEST, HIGHEST) {
-            Some(thousandths) => Ok(Weight { thousandths }),
-            None => Err(Stop::OutOfRange),
-        }
+        wide::narrow(wide::sum(left, right), LOWEST, HIGHEST)
+            .map(|thousandths| Weight { thousandths })
+            .ok_or(Stop::OutOfRange)
     }
 
     fn subtract(left: Weight, right: Weight) -> Result<Weight, Stop> {
         let (left, right) = operands(left, right);
-        match wide::narrow(wide::difference(left, right), LOWEST, HIGHEST) {
-            Some(thousandths) => Ok(Weight { thousandths }),
-            None => Err(Stop::OutOfRange),
-        }
+        wide::narrow(wide::difference(left, right), LOWEST, HIGHEST)
+            .map(|thousandths| Weight { thousandths })
+            .ok_or(Stop::OutOfRange)
     }
 
     fn multiply(left: Weight, right: Weight) -> Result<Weight, Stop> {

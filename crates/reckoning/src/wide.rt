@@ -5,19 +5,19 @@ ghost use Rattle.reckoning.specs.Meaning.{is_zero, within};
 pub(crate) fn sum(left: i32, right: i32) -> i64
     ensures { result ≡ left +ℤ right }
 {
-    left as i64 + right as i64
+    i64::from(left) + i64::from(right)
 }
 
 pub(crate) fn difference(left: i32, right: i32) -> i64
     ensures { result ≡ left -ℤ right }
 {
-    left as i64 - right as i64
+    i64::from(left) - i64::from(right)
 }
 
 pub(crate) fn product(left: i32, right: i32) -> i64
     ensures { result ≡ left *ℤ right }
 {
-    left as i64 * right as i64
+    i64::from(left) * i64::from(right)
 }
 
 // number × factor / divisor, with the fraction dropped toward zero.
@@ -25,17 +25,15 @@ pub(crate) fn scaled(number: i32, factor: i32, divisor: i32) -> i64
     requires { is_zero divisor ≡ false }
     ensures { result ≡ int_div (number *ℤ factor) divisor }
 {
-    product(number, factor) / divisor as i64
+    product(number, factor) / i64::from(divisor)
 }
 
-// The number in 32 bits, if it lies from low to high. It is an Option, of which each operation makes its own answer:
-// so compiled, the range is one branch, where the Result of a shared function is packed into a word and taken apart again.
+// The number in 32 bits, if it lies from low to high. It is an Option, of which each operation makes its own
+// answer: so compiled, the range is one branch, where a shared Result is packed into a word and taken apart again.
 pub(crate) fn narrow(number: i64, low: i32, high: i32) -> Option<i32>
     ensures { elim result [ Some n ↦ (n ≡ number) × (within low high number ≡ true) | None ↦ within low high number ≡ false ] }
 {
-    if number >= low as i64 && number <= high as i64 {
-        Some(number as i32)
-    } else {
-        None
-    }
+    i32::try_from(number)
+        .ok()
+        .filter(|number| (low..=high).contains(number))
 }
