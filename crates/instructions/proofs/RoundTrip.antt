@@ -1,7 +1,7 @@
 -- A word and its instruction come back from each other. Assumes nothing.
-use Rattle.std.proofs.Common.{◌≡◌, ℕ, zero, suc, ◌+◌, ◌-◌, ◌*◌, ◌/◌, ◌%◌, ◌<◌, ◌≤◌, Bool, true, false, cond, ◌&&◌, List, [], ◌∷◌, ℤ, pos, negsuc, Some, None, Option, sym, refl, ap, ◌∙◌, subst, ⊎_elim, add-zero, add-suc, suc-add, zero-add, arith, le-ltb, lt-ltb, le-leb}
+use Rattle.std.proofs.Common.{◌≡◌, ℕ, zero, suc, ◌+◌, ◌-◌, ◌*◌, ◌/◌, ◌%◌, ◌<◌, ◌≤◌, Bool, true, false, cond, ◌&&◌, List, [], ◌∷◌, ℤ, pos, negsuc, Some, None, Option, Ok, sym, refl, ap, ◌∙◌, subst, ⊎_elim, add-zero, add-suc, suc-add, zero-add, arith, le-ltb, lt-ltb, le-leb}
 use lib.Signed.{le_z}
-use Rattle.std.specs.Option.{option_map}
+use Rattle.std.specs.Option.{option_map, ok_or}
 use Rattle.std.specs.List.{slice_get}
 use Rattle.std.proofs.lemmas.Int.{ints}
 use Rattle.std.proofs.str.Laws.{order}
@@ -69,8 +69,9 @@ word_by i true w fits is =
     subst (λ v. decoded v ≡ Some i) same (decoded_at i (number i) (low_bits (operand i)) refl back.1 back.0)
 word_by i false w fits is = cc
 
-pub encoded_is : (i : Instruction) (w : ℕ) → short (operand i) ≡ true → w ≡ 16777216 * number i + low_bits (operand i) → Some w ≡ encoded i
-encoded_is i w fits is = rw fits (ap Some is)
+pub ok_some : {X E : Type 0} (o : Option X) (e : E) (x : X) → ok_or o e ≡ Ok x → o ≡ Some x
+ok_some (Some y) e x is = cc
+ok_some None e x is = cc
 
 pub instruction_back : (i : Instruction) (w : ℕ) → encoded i ≡ Some w → decoded w ≡ Some i
 instruction_back i w is = word_by i (short (operand i)) w refl is

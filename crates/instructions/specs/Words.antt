@@ -1,5 +1,5 @@
 -- A word of code: eight high bits of number and a 24-bit two's complement operand. Assumes nothing.
-use Rattle.std.specs.Prelude.{◌≡◌, ℕ, ◌+◌, ◌-◌, ◌*◌, ◌/◌, ◌%◌, Bool, cond, ◌&&◌, ◌||◌, List, [], ◌∷◌, ℤ, pos, negsuc, Some, None, Option, ◌==◌, int_le, nat_lt}
+use Rattle.std.specs.Prelude.{◌≡◌, ℕ, ◌+◌, ◌-◌, ◌*◌, ◌/◌, ◌%◌, Bool, cond, ◌&&◌, ◌||◌, List, [], ◌∷◌, ℤ, pos, negsuc, Some, None, Option, Ok, Result, ◌==◌, int_le, nat_lt}
 use Rattle.std.specs.Option.{option_map}
 use Rattle.std.specs.List.{slice_get}
 use Rattle.reckoning.specs.declared.Comparison.{Comparison}
@@ -7,6 +7,8 @@ use Rattle.reckoning.specs.declared.Comparison.TheVariants.{Equal, NotEqual, Les
 use Rattle.reckoning.specs.declared.Operator.{Operator}
 use Rattle.reckoning.specs.declared.Operator.TheVariants.{Add, Subtract, Multiply, Divide, Remainder, Compare}
 use Rattle.instructions.specs.declared.set.Instruction.{Instruction}
+use Rattle.instructions.specs.declared.set.OperandRange.{OperandRange}
+use Rattle.instructions.specs.declared.set.UnknownWord.{UnknownWord}
 use Rattle.instructions.specs.declared.set.Instruction.TheVariants.{Halt, LoadConstant, LoadRelative, Load, Store, Pop, Operate, Negate, Not, Jump, JumpZero, Mark, Call, Enter, Allocate, Return, Check}
 
 -- The instructions in the order of their numbers, each with the operand that it takes or ignores.
@@ -80,9 +82,13 @@ abbrev pub low_bits : ℤ → ℕ
 low_bits (pos n) = n
 low_bits (negsuc n) = 16777215 - n
 
+-- The word of a number and an operand, if the operand has 24 bits.
+abbrev pub word_of : ℕ → ℤ → Option ℕ
+word_of n z = cond (int_le (negsuc 8388607) z && int_le z (pos 8388607)) (Some (16777216 * n + low_bits z)) None
+
 -- The word of an instruction, if its operand has 24 bits.
 abbrev pub encoded : Instruction → Option ℕ
-encoded i = cond (int_le (negsuc 8388607) (operand i) && int_le (operand i) (pos 8388607)) (Some (16777216 * number i + low_bits (operand i))) None
+encoded i = word_of (number i) (operand i)
 
 -- Whether the instruction with this number takes an operand.
 abbrev pub takes : ℕ → Bool
@@ -92,9 +98,16 @@ takes n = n == 1 || (n == 2 || (n == 19 || (n == 20 || (n == 22 || (n == 23 || (
 abbrev pub plain : ℕ → ℕ
 plain w = 16777216 * (w / 16777216) + cond (takes (w / 16777216)) (w % 16777216) 0
 
--- An instruction comes back from its word, and a word from its instruction, but for an ignored operand.
-abbrev pub Decodes : Instruction → Option ℕ → Type 0
-Decodes i encoding = (w : ℕ) → encoding ≡ Some w → decoded w ≡ Some i
+-- What is wrong with a word that is no instruction's, and with an operand that has no 24 bits.
+abbrev pub unknown : ℕ → UnknownWord
+unknown w = record { 0 = w }
 
-abbrev pub Encodes : ℕ → Option Instruction → Type 0
-Encodes w decoding = (i : Instruction) → decoding ≡ Some i → encoded i ≡ Some (plain w)
+abbrev pub out_of_range : ℤ → OperandRange
+out_of_range z = record { 0 = z }
+
+-- An instruction comes back from its word, and a word from its instruction, but for an ignored operand.
+abbrev pub Decodes : Instruction → Result ℕ OperandRange → Type 0
+Decodes i encoding = (w : ℕ) → encoding ≡ Ok w → decoded w ≡ Some i
+
+abbrev pub Encodes : ℕ → Result Instruction UnknownWord → Type 0
+Encodes w decoding = (i : Instruction) → decoding ≡ Ok i → encoded i ≡ Some (plain w)

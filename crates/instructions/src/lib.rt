@@ -4,5 +4,5 @@
 mod set;
 mod stops;
 
-pub use set::{Instruction, NAMES, decode, encode, operand_of};
+pub use set::{Instruction, NAMES, OperandRange, UnknownWord, operand_of, word_of};
 pub use stops::{Layer, Stop};

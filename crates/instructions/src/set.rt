@@ -1,9 +1,10 @@
-ghost use Rattle.std.specs.Prelude.{◌≡◌, ◌%◌, ◌<◌, ◌≤◌, true, pos, negsuc, Some, int_le};
-ghost use Rattle.std.specs.List.{slice_get};
-ghost use Rattle.reckoning.specs.declared.Operator.TheVariants.{Compare};
-ghost use Rattle.instructions.specs.Words.{signed, decoded, table, comparison_number, number, operand, low_bits, encoded, Encodes, Decodes};
+ghost use Rattle.std.specs.Prelude.{◌≡◌, ◌%◌, ◌≤◌};
+ghost use Rattle.std.specs.Option.{ok_or};
+ghost use Rattle.instructions.specs.Words.{signed, decoded, number, operand, word_of, encoded, unknown, out_of_range, Encodes, Decodes};
 
 use reckoning::{Comparison, Operator};
+use std::error::Error;
+use std::fmt;
 
 // What the instructions are called in a listing, in the order of their numbers.
 pub const NAMES: [&'static str; 27] = [
@@ -12,7 +13,7 @@ pub const NAMES: [&'static str; 27] = [
     "alloc", "return", "chk",
 ];
 
-#[derive(Clone, Copy)]
+#[derive(Clone, Copy, Debug, PartialEq, Eq)]
 pub enum Instruction {
     Halt,
     LoadConstant(i32),
@@ -39,72 +40,56 @@ pub fn operand_of(word: u32) -> i32
     ((word % 0x100_0000 + 0x80_0000) % 0x100_0000) as i32 - 0x80_0000
 }
 
-// The comparison whose instruction has this number.
-fn comparison(number: u32) -> Comparison
-    requires { (11 ≤ number) × (number ≤ 16) }
-    ensures { slice_get table number ≡ Some (λ _. Instruction.Operate (Compare result)) }
-{
-    match number {
-        11 => Comparison::Equal,
-        12 => Comparison::NotEqual,
-        13 => Comparison::Less,
-        14 => Comparison::AtMost,
-        15 => Comparison::Greater,
-        _ => Comparison::AtLeast,
+// A word whose number no instruction has.
+#[derive(Clone, Copy, Debug, PartialEq, Eq)]
+pub struct UnknownWord(pub u32);
+
+impl fmt::Display for UnknownWord {
+    fn fmt<W: fmt::Write>(&self, f: &mut fmt::Formatter<W>) -> fmt::Result {
+        write!(f, "no instruction has the word {}", self.0)
     }
 }
 
-fn instruction_of(word: u32) -> Option<Instruction>
-    ensures { result ≡ decoded word }
-{
-    let operand = operand_of(word);
-    let number = word / 0x100_0000;
-    let instruction = match number {
-        0 => Instruction::Halt,
-        1 => Instruction::LoadConstant(operand),
-        2 => Instruction::LoadRelative(operand),
-        3 => Instruction::Load,
-        4 => Instruction::Store,
-        5 => Instruction::Pop,
-        6 => Instruction::Operate(Operator::Add),
-        7 => Instruction::Operate(Operator::Subtract),
-        8 => Instruction::Operate(Operator::Multiply),
-        9 => Instruction::Operate(Operator::Divide),
-        10 => Instruction::Operate(Operator::Remainder),
-        11..=16 => Instruction::Operate(Operator::Compare(comparison(number))),
-        17 => Instruction::Negate,
-        18 => Instruction::Not,
-        19 => Instruction::Jump(operand),
-        20 => Instruction::JumpZero(operand),
-        21 => Instruction::Mark,
-        22 => Instruction::Call(operand),
-        23 => Instruction::Enter(operand),
-        24 => Instruction::Allocate(operand),
-        25 => Instruction::Return,
-        26 => Instruction::Check(operand),
-        _ => return None,
-    };
-    Some(instruction)
-}
+impl Error for UnknownWord {}
 
-pub fn decode(word: u32) -> Option<Instruction>
-    ensures is { result ≡ decoded word }
-    ensures encodes { Encodes word result }
-{
-    instruction_of(word)
-}
+impl TryFrom<u32> for Instruction {
+    type Error = UnknownWord;
 
-fn comparison_number(how: Comparison) -> u32
-    ensures is { result ≡ comparison_number how }
-    ensures small { result ≤ 26 }
-{
-    match how {
-        Comparison::Equal => 11,
-        Comparison::NotEqual => 12,
-        Comparison::Less => 13,
-        Comparison::AtMost => 14,
-        Comparison::Greater => 15,
-        Comparison::AtLeast => 16,
+    ghost try_from_gives = { λ word r. (r ≡ ok_or (decoded word) (unknown word)) × Encodes word r };
+
+    fn try_from(word: u32) -> Result<Self, UnknownWord> {
+        let operand = operand_of(word);
+        let instruction = match word / 0x100_0000 {
+            0 => Instruction::Halt,
+            1 => Instruction::LoadConstant(operand),
+            2 => Instruction::LoadRelative(operand),
+            3 => Instruction::Load,
+            4 => Instruction::Store,
+            5 => Instruction::Pop,
+            6 => Instruction::Operate(Operator::Add),
+            7 => Instruction::Operate(Operator::Subtract),
+            8 => Instruction::Operate(Operator::Multiply),
+            9 => Instruction::Operate(Operator::Divide),
+            10 => Instruction::Operate(Operator::Remainder),
+            11 => Instruction::Operate(Operator::Compare(Comparison::Equal)),
+            12 => Instruction::Operate(Operator::Compare(Comparison::NotEqual)),
+            13 => Instruction::Operate(Operator::Compare(Comparison::Less)),
+            14 => Instruction::Operate(Operator::Compare(Comparison::AtMost)),
+            15 => Instruction::Operate(Operator::Compare(Comparison::Greater)),
+            16 => Instruction::Operate(Operator::Compare(Comparison::AtLeast)),
+            17 => Instruction::Negate,
+            18 => Instruction::Not,
+            19 => Instruction::Jump(operand),
+            20 => Instruction::JumpZero(operand),
+            21 => Instruction::Mark,
+            22 => Instruction::Call(operand),
+            23 => Instruction::Enter(operand),
+            24 => Instruction::Allocate(operand),
+            25 => Instruction::Return,
+            26 => Instruction::Check(operand),
+            _ => return Err(UnknownWord(word)),
+        };
+        Ok(instruction)
     }
 }
 
@@ -125,7 +110,7 @@ impl Instruction {
             Instruction::Operate(Operator::Multiply) => 8,
             Instruction::Operate(Operator::Divide) => 9,
             Instruction::Operate(Operator::Remainder) => 10,
-            Instruction::Operate(Operator::Compare(how)) => comparison_number(how),
+            Instruction::Operate(Operator::Compare(how)) => 11 + how as u32,
             Instruction::Negate => 17,
             Instruction::Not => 18,
             Instruction::Jump(_) => 19,
@@ -144,43 +129,48 @@ impl Instruction {
         ensures { result ≡ operand self }
     {
         match self {
-            Instruction::LoadConstant(n) => n,
-            Instruction::LoadRelative(j) => j,
-            Instruction::Jump(to) => to,
-            Instruction::JumpZero(to) => to,
-            Instruction::Call(n) => n,
-            Instruction::Enter(q) => q,
-            Instruction::Allocate(k) => k,
-            Instruction::Check(n) => n,
+            Instruction::LoadConstant(operand)
+            | Instruction::LoadRelative(operand)
+            | Instruction::Jump(operand)
+            | Instruction::JumpZero(operand)
+            | Instruction::Call(operand)
+            | Instruction::Enter(operand)
+            | Instruction::Allocate(operand)
+            | Instruction::Check(operand) => operand,
             _ => 0,
         }
     }
 }
 
-// The 24 bits of an operand.
-fn low_bits(operand: i32) -> u32
-    requires { (int_le (negsuc 8388607) operand ≡ true) × (int_le operand (pos 8388607) ≡ true) }
-    ensures is { result ≡ low_bits operand }
-    ensures small { result < 16777216 }
+// The word of an instruction's number and an operand, if the operand has 24 bits.
+pub fn word_of(number: u8, operand: i32) -> Option<u32>
+    ensures { result ≡ word_of number operand }
 {
-    if operand < 0 {
-        (operand + 0x100_0000) as u32
-    } else {
-        operand as u32
+    let low_bits = operand.rem_euclid(0x100_0000) as u32;
+    let word = 0x100_0000 * u32::from(number) + low_bits;
+    (-0x80_0000..=0x7f_ffff).contains(&operand).then_some(word)
+}
+
+// An operand that has no 24 bits.
+#[derive(Clone, Copy, Debug, PartialEq, Eq)]
+pub struct OperandRange(pub i32);
+
+impl fmt::Display for OperandRange {
+    fn fmt<W: fmt::Write>(&self, f: &mut fmt::Formatter<W>) -> fmt::Result {
+        write!(f, "the operand {} has more than 24 bits", self.0)
     }
 }
 
-// The word of an instruction, if its operand has 24 bits.
-pub fn encode(instruction: Instruction) -> Option<u32>
-    ensures is { result ≡ encoded instruction }
-    ensures decodes { Decodes instruction result }
-{
-    let operand = instruction.operand();
-    if operand < -0x80_0000 {
-        return None;
+impl Error for OperandRange {}
+
+// The word of an instruction.
+impl TryFrom<Instruction> for u32 {
+    type Error = OperandRange;
+
+    ghost try_from_gives = { λ instruction r. (r ≡ ok_or (encoded instruction) (out_of_range (operand instruction))) × Decodes instruction r };
+
+    fn try_from(instruction: Instruction) -> Result<u32, OperandRange> {
+        let operand = instruction.operand();
+        word_of(instruction.number() as u8, operand).ok_or(OperandRange(operand))
     }
-    if operand > 0x7f_ffff {
-        return None;
-    }
-    Some(0x100_0000 * instruction.number() + low_bits(operand))
 }

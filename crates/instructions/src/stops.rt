@@ -1,11 +1,12 @@
 ghost use Rattle.std.specs.Prelude.{◌≡◌, ◌≤◌};
 ghost use Rattle.instructions.specs.Stops.{stop_number, stop_layer};
+ghost use Rattle.instructions.specs.declared.stops.Stop.TheVariants.{Reckoned};
 
 use reckoning::Stop as ReckoningStop;
 
 // Why a run stops: broken code, an index outside its array, no unit left, too many functions active, want of cells,
 // or what the reckoning says.
-#[derive(Clone, Copy)]
+#[derive(Clone, Copy, Debug, PartialEq, Eq)]
 pub enum Stop {
     Broken,
     Index,
@@ -16,7 +17,7 @@ pub enum Stop {
 }
 
 // Who stops a run.
-#[derive(Clone, Copy)]
+#[derive(Clone, Copy, Debug, PartialEq, Eq)]
 pub enum Layer {
     Machine,
     Reckoning,
@@ -45,5 +46,13 @@ impl Stop {
             Stop::Reckoned(_) => Layer::Reckoning,
             _ => Layer::Machine,
         }
+    }
+}
+
+impl From<ReckoningStop> for Stop {
+    ghost from_gives = { λ stop r. r ≡ Reckoned stop };
+
+    fn from(stop: ReckoningStop) -> Self {
+        Self::Reckoned(stop)
     }
 }
