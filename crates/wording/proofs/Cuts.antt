@@ -1,42 +1,40 @@
 -- Cutting at a byte, and lines by it. Assumes nothing.
-use Rattle.std.proofs.Common.{◌≡◌, ℕ, ◌+◌, ◌<◌, ◌≤◌, Bool, true, false, eqb, List, [], ◌∷◌, ◌++◌, length, get_or, take, drop, IfSome, Some, None, Option, sym, refl, ap, ◌∙◌, append_assoc, append-nil, arith}
-use Rattle.std.specs.Option.{option_map}
-use Rattle.std.proofs.lemmas.List.{take_more, drop_more, drop_all}
-use Rattle.wording.specs.Pieces.{cut, begin, lines}
+use Rattle.std.proofs.Common.{◌≡◌, ℕ, suc, ◌+◌, ◌<◌, Bool, true, false, eqb, List, [], ◌∷◌, length, take, drop, IfSome, Some, None, Option, sym, refl, ap, ◌∙◌, subst, arith, Bor}
+use Rattle.std.specs.Bool.{◌==◌}
+use Rattle.std.specs.List.{position, position_from}
+use Rattle.std.specs.Option.{option_map, unwrap_or}
+use Rattle.std.proofs.lemmas.Iterator.Adapters.{position_from-zero}
+use Rattle.wording.specs.Pieces.{cut, begin, lines, held}
 
-abbrev pub after : List ℕ → Option (List ℕ × List ℕ) → Option (List ℕ × List ℕ)
-after xs o = option_map (λ p. (xs ++ p.0, p.1)) o
+one_more : (n : ℕ) → 1 + n ≡ suc n
+one_more n = omega arith
 
--- the first i bytes hold no c
-abbrev pub SoFar : ℕ → List ℕ → ℕ → Type 0
-SoFar c bs i = cut c bs ≡ after (take i bs) (cut c (drop i bs))
+-- a place that is looked for from 1 on
+pub place_later : {X : Type 0} (test : X → Bool) (xs : List X) (i : ℕ) → position_from test (i + 1) xs ≡ option_map suc (position_from test i xs)
+place_later test [] i = refl
+place_later test (x ∷ xs) i = by (test x) refl (place_later test xs (i + 1))
+  where
+    by : (v : Bool) → test x ≡ v → position_from test (i + 1 + 1) xs ≡ option_map suc (position_from test (i + 1) xs) → position_from test (i + 1) (x ∷ xs) ≡ option_map suc (position_from test i (x ∷ xs))
+    by true e h = rw e (ap Some (omega arith))
+    by false e h = rw e h
 
-after_nil : (o : Option (List ℕ × List ℕ)) → o ≡ after [] o
-after_nil None = refl
-after_nil (Some p) = refl
+abbrev pub parts : List ℕ → Option ℕ → Option (List ℕ × List ℕ)
+parts bs o = option_map (λ i. (take i bs, drop (i + 1) bs)) o
 
-pub none_so_far : (c : ℕ) (bs : List ℕ) → SoFar c bs 0
-none_so_far c bs = after_nil (cut c bs)
+parts_later : (b : ℕ) (bs : List ℕ) (o : Option ℕ) → option_map (λ p. (b ∷ p.0, p.1)) (parts bs o) ≡ parts (b ∷ bs) (option_map suc o)
+parts_later b bs None = refl
+parts_later b bs (Some i) = let e : suc i + 1 ≡ suc (i + 1) = omega arith in rw e refl
 
-after_both : (xs : List ℕ) (x : ℕ) (o : Option (List ℕ × List ℕ)) → after xs (option_map (λ p. (x ∷ p.0, p.1)) o) ≡ after (xs ++ (x ∷ [])) o
-after_both xs x None = refl
-after_both xs x (Some p) = ap (λ l. Some (l, p.1)) (sym (append_assoc xs (x ∷ []) p.0))
+cut_from : (c : ℕ) (bs : List ℕ) → cut c bs ≡ parts bs (position_from (λ b. b == c) 0 bs)
+cut_from c [] = refl
+cut_from c (b ∷ bs) = by (b == c) refl (cut_from c bs)
+  where
+    by : (v : Bool) → (b == c) ≡ v → cut c bs ≡ parts bs (position_from (λ b. b == c) 0 bs) → cut c (b ∷ bs) ≡ parts (b ∷ bs) (position_from (λ b. b == c) 0 (b ∷ bs))
+    by true e h = rw e refl
+    by false e h = rw e (ap (option_map (λ p. (b ∷ p.0, p.1))) h ∙ parts_later b bs (position_from (λ b. b == c) 0 bs) ∙ ap (parts (b ∷ bs)) (sym (place_later (λ b. b == c) bs 0)))
 
-cut_past : (c x : ℕ) (xs ys : List ℕ) → eqb x c ≡ false → after xs (cut c (x ∷ ys)) ≡ after (xs ++ (x ∷ [])) (cut c ys)
-cut_past c x xs ys e = rw e (after_both xs x (cut c ys))
-
-pub more_so_far : (c : ℕ) (bs : List ℕ) (i : ℕ) → i < length bs → eqb (get_or bs i 0) c ≡ false → SoFar c bs i → SoFar c bs (i + 1)
-more_so_far c bs i h e s =
-    s ∙ ap (λ l. after (take i bs) (cut c l)) (drop_more bs i 0 h) ∙ cut_past c (get_or bs i 0) (take i bs) (drop (i + 1) bs) e ∙ ap (λ l. after l (cut c (drop (i + 1) bs))) (sym (take_more bs i 0 h))
-
-cut_at : (c x : ℕ) (xs ys : List ℕ) → eqb x c ≡ true → after xs (cut c (x ∷ ys)) ≡ Some (xs, ys)
-cut_at c x xs ys e = rw e (ap (λ l. Some (l, ys)) (append-nil xs))
-
-pub cut_here : (c : ℕ) (bs : List ℕ) (i : ℕ) → i < length bs → eqb (get_or bs i 0) c ≡ true → SoFar c bs i → cut c bs ≡ Some (take i bs, drop (i + 1) bs)
-cut_here c bs i h e s = s ∙ ap (λ l. after (take i bs) (cut c l)) (drop_more bs i 0 h) ∙ cut_at c (get_or bs i 0) (take i bs) (drop (i + 1) bs) e
-
-pub cut_nowhere : (c : ℕ) (bs : List ℕ) (i : ℕ) → length bs ≤ i → SoFar c bs i → cut c bs ≡ None
-cut_nowhere c bs i h s = s ∙ ap (λ l. after (take i bs) (cut c l)) (drop_all i bs h)
+pub cut_is : (c : ℕ) (bs : List ℕ) (o : Option ℕ) → o ≡ position (λ b. b == c) bs → cut c bs ≡ parts bs o
+cut_is c bs o e = cut_from c bs ∙ ap (parts bs) (sym (e ∙ position_from-zero (λ b. b == c) bs))
 
 -- the lines of a text that was cut at its first line feed
 abbrev pub lines_at : List ℕ → Option (List ℕ × List ℕ) → List (List ℕ)
@@ -72,6 +70,14 @@ shorter_cut c (b ∷ bs) = by (eqb b c) refl (shorter_cut c bs)
     by true e h = rw e (omega arith)
     by false e h = rw e (shorter_more b bs (cut c bs) h)
 
-pub last_line : (t : List ℕ) → cut 10 t ≡ None → 0 < length t → lines t ≡ t ∷ []
+-- what stands before and after the first line feed, or the whole text and nothing
+abbrev pub IsFirst : List ℕ → Bor (List ℕ) × Bor (List ℕ) → Type 0
+IsFirst t p = (lines t ≡ p.0.now ∷ lines p.1.now) × (length p.1.now < length t)
+
+last_line : (t : List ℕ) → cut 10 t ≡ None → 0 < length t → lines t ≡ t ∷ []
 last_line [] e h = absurd (omega arith)
 last_line (b ∷ bs) e h = lines_cut (b ∷ bs) ∙ ap (lines_at (b ∷ bs)) e
+
+pub first_of : (t rest : Bor (List ℕ)) (o : Option (Bor (List ℕ) × Bor (List ℕ))) → 0 < length t.now → rest.now ≡ [] → held o ≡ cut 10 t.now → IsFirst t.now (unwrap_or o (t, rest))
+first_of t rest (Some p) h z e = (lines_cut t.now ∙ ap (lines_at t.now) (sym e), subst (Shorter t.now) (sym e) (shorter_cut 10 t.now))
+first_of t rest None h z e = rw z (last_line t.now (sym e) h, h)

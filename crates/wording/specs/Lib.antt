@@ -1,4 +1,3 @@
 pub mod Pieces
 pub mod Numerals
-pub mod Fronts
 pub mod Caps

@@ -1,19 +1,17 @@
-use native.Mathlib.Nat.{sub-zero}
-use Rattle.std.proofs.Common.{eq-eqb, ne_eqb}
+use Rattle.std.proofs.Common.{◌≡◌, rules, tests, refl, sym, ap, ◌∙◌, Some, None}
+use Rattle.std.specs.Bool.{◌==◌}
 use Rattle.std.proofs.lemmas.List.{take_rest}
-use Rattle.wording.proofs.Cuts.{none_so_far, more_so_far, cut_here, cut_nowhere}
+use Rattle.std.proofs.lemmas.Iterator.{YieldsList-from_slice}
+use Rattle.std.proofs.lemmas.Iterator.Search.{position_from_yields_List}
+use Rattle.wording.proofs.Cuts.{parts, cut_is}
 use Rattle.wording.proofs.pieces.cut.Goals as goal
 
-pub loop-i-init : goal.loop-i-init
-loop-i-init c = none_so_far c.args.at c.args.bytes.now
-
-pub returns-then-b-at : goal.returns-then-b-at
-returns-then-b-at c =
-    let e = cut_here c.args.at c.args.bytes.now c.loop-i.i c.loop-i-test.true (eq-eqb _ _ c.if-b-at.true) c.loop-i.invariant in
-    rw (sub-zero, take_rest, e)
-
-pub loop-i-preserved : goal.loop-i-preserved
-loop-i-preserved c = more_so_far c.args.at c.args.bytes.now c.loop-i.i c.loop-i-test.true (ne_eqb _ _ c.if-b-at.false) c.loop-i.invariant
+pub returns-in_err-i : goal.returns-in_err-i
+returns-in_err-i c =
+    let at = position_from_yields_List (λ b. b == c.args.at) _ _ _ c.position.ensures.ran (YieldsList-from_slice _ c.iter.ensures.rest) (λ x b q k. search (rules, tests)) in
+    rw c.from_residual.ensures (sym (cut_is c.args.at c.args.bytes.now None (sym c.in_err-i.was ∙ at)))
 
 pub returns : goal.returns
-returns c = rw (cut_nowhere c.args.at c.args.bytes.now c.loop-i.i c.loop-i-test.false c.loop-i.invariant)
+returns c =
+    let at = position_from_yields_List (λ b. b == c.args.at) _ _ _ c.position.ensures.ran (YieldsList-from_slice _ c.iter.ensures.rest) (λ x b q k. search (rules, tests)) in
+    rw take_rest (sym (cut_is c.args.at c.args.bytes.now (Some c.in_ok-i.i) (sym c.in_ok-i.was ∙ at)))

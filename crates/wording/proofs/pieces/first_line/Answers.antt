@@ -1,7 +1,6 @@
-use Rattle.std.proofs.Common.{ap, rules}
-use Rattle.std.proofs.lemmas.List.{nil_from_length}
-use Rattle.wording.specs.Pieces.{lines}
+use Rattle.std.proofs.Common.{refl, rules}
+use Rattle.wording.proofs.Cuts.{first_of}
 use Rattle.wording.proofs.pieces.first_line.Goals as goal
 
-pub returns-then-is_empty : goal.returns-then-is_empty
-returns-then-is_empty c = record { is = ap lines (nil_from_length c.args.text.now (search rules)); shorter = tt }
+pub returns : goal.returns
+returns c = let h = first_of c.args.text _ c.cut.result (search rules) refl c.cut.ensures in rw c.unwrap_or.ensures record { is = h.0; shorter = h.1 }
