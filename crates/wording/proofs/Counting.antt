@@ -1,13 +1,16 @@
 -- Digits read with a cap. Assumes nothing.
-use Rattle.std.proofs.Common.{◌≡◌, ℕ, ◌+◌, ◌-◌, ◌*◌, ◌<◌, ◌≤◌, Bool, true, false, List, [], ◌∷◌, length, get_or, take, drop, ℤ, pos, negsuc, Some, None, Ok, Option, sym, refl, ap, ◌∙◌, subst, true≢false, arith, w64, SFits, eq-eqb, leb-true}
-use lib.Signed.{le_z, lt_z}
+use Rattle.std.proofs.Common.{◌≡◌, ℕ, ◌+◌, ◌-◌, ◌*◌, ◌<◌, ◌≤◌, Bool, true, false, cond, ◌&&◌, List, [], ◌∷◌, length, get_or, take, drop, ℤ, Some, None, Ok, Err, Option, Result, int_le, OkIff, sym, refl, ap, ◌∙◌, ⊎_elim, arith, w64, SFits, eq-eqb}
 use mir.Syntax.{w128}
 use Rattle.std.proofs.lemmas.Int.{ints}
+use Rattle.std.proofs.lemmas.Bool.{cases_lt}
 use Rattle.std.proofs.lemmas.Bool.Decides.{nat_tests}
 use Rattle.std.specs.Option.{option_map}
 use Rattle.std.proofs.lemmas.List.{drop_more, drop_all, take_rest}
+use Rattle.wording.specs.declared.numerals.Misread.{Misread}
+use Rattle.wording.specs.declared.numerals.Misread.TheVariants.{OutOfRange}
 use Rattle.wording.specs.Numerals.{digit, digits_after, minus, unsigned, signed, read_within}
 use Rattle.wording.specs.Caps.{cap, capped}
+use Rattle.wording.specs.Conversions.{converted, IsConverted}
 
 cap_more : (m n d : ℕ) → cap m ≡ cap n → cap (10 * m + d) ≡ cap (10 * n + d)
 cap_more m n d e = omega arith
@@ -41,30 +44,40 @@ pub minus_front : (t : List ℕ) → 0 < length t → get_or t 0 0 ≡ 45 → (t
 minus_front [] h e = absurd (omega arith)
 minus_front (b ∷ bs) h e = (sym (eq-eqb b 45 e), rw (eq-eqb b 45 e) (take_rest (b ∷ bs) 1))
 
-uncapped : (n m : ℕ) → m ≡ cap n → m < 18446744073709551615 → m ≡ n
-uncapped n m e h = omega arith
+-- a number that is cut off lies outside, cut off or not
+outside : (negative : Bool) (m : ℕ) (low high : ℤ) → SFits w64 low → SFits w64 high → 18446744073709551615 ≤ m → (int_le low (signed negative m) && int_le (signed negative m) high) ≡ false
+outside true m low high f g h = grind (arith, ints, nat_tests)
+outside false m low high f g h = grind (arith, ints, nat_tests)
 
-small : (negative : Bool) (m : ℕ) (low high : ℤ) → SFits w64 low → SFits w64 high → le_z low (signed negative m) ≡ true → le_z (signed negative m) high ≡ true → m < 18446744073709551615
-small true m low high f g a b = grind (arith, ints, nat_tests)
-small false m low high f g a b = grind (arith, ints, nat_tests)
+capped_within : (negative : Bool) (low high : ℤ) (o : Option ℕ) → SFits w64 low → SFits w64 high → read_within low high (option_map (signed negative) (capped o)) ≡ read_within low high (option_map (signed negative) o)
+capped_within negative low high None f g = refl
+capped_within negative low high (Some n) f g = ⊎_elim kept cut (cases_lt n 18446744073709551615)
+  where
+    kept : n < 18446744073709551615 → read_within low high (Some (signed negative (cap n))) ≡ read_within low high (Some (signed negative n))
+    kept h = let e : cap n ≡ n = omega arith in rw e refl
 
--- a number that is in range was not capped
-pub in_range : (negative : Bool) (m : ℕ) (low high : ℤ) (o : Option ℕ) → SFits w64 low → SFits w64 high → le_z low (signed negative m) ≡ true → le_z (signed negative m) high ≡ true → Some m ≡ capped o → Ok (signed negative m) ≡ read_within low high (option_map (signed negative) o)
-in_range negative m low high None f g a b e = let z : ◌≡◌ {A = ℕ} 0 1 = cc in absurd (omega arith)
-in_range negative m low high (Some n) f g a b e =
-    let same : m ≡ n = uncapped n m (cc) (small negative m low high f g a b) in
-    subst (λ k. Ok (signed negative m) ≡ read_within low high (Some (signed negative k))) same (rw (a, b) refl)
+    cut : 18446744073709551615 ≤ n → read_within low high (Some (signed negative (cap n))) ≡ read_within low high (Some (signed negative n))
+    cut h = rw (outside negative (cap n) low high f g (omega arith), outside negative n low high f g h) refl
 
 pub widened : (z : ℤ) → SFits w64 z → SFits w128 z
 widened z f = record { sfits = omega (arith, f.sfits) }
 
-pub not_below : (a b : ℤ) → lt_z a b ≡ false → le_z b a ≡ true
-not_below a b e = grind (arith, ints, nat_tests)
+fits_between : (low z high : ℤ) → SFits w64 low → SFits w64 high → (int_le low z && int_le z high) ≡ true → SFits w64 z
+fits_between low z high f g e = record { sfits = grind (arith, ints, nat_tests) }
 
-pub narrowed : (low z high : ℤ) → SFits w64 low → SFits w64 high → le_z low z ≡ true → le_z z high ≡ true → SFits w64 z
-narrowed (pos a) (pos z) (pos b) f g p q = record { sfits = omega (arith, g.sfits, leb-true z b q) }
-narrowed (pos a) (pos z) (negsuc b) f g p q = absurd (true≢false (sym q))
-narrowed (pos a) (negsuc z) high f g p q = absurd (true≢false (sym p))
-narrowed (negsuc a) (pos z) (pos b) f g p q = record { sfits = omega (arith, g.sfits, leb-true z b q) }
-narrowed (negsuc a) (pos z) (negsuc b) f g p q = absurd (true≢false (sym q))
-narrowed (negsuc a) (negsuc z) high f g p q = record { sfits = omega (arith, f.sfits, leb-true z a p) }
+-- what lies between numbers of 64 bits has 64
+narrowed : (E : Type 0) (low high : ℤ) (o : Option ℤ) (r : Result ℤ Misread) → SFits w64 low → SFits w64 high → IsConverted {E = E} (λ z t. OkIff t (SFits w64 z) z) (read_within low high o) r → r ≡ read_within low high o
+narrowed E low high None r f g h = h
+narrowed E low high (Some z) r f g h = by (int_le low z && int_le z high) refl h
+  where
+    held : (t : Result ℤ E) → SFits w64 z → OkIff t (SFits w64 z) z → converted t ≡ Ok z
+    held (Ok x) s h = ap Ok h.1
+    held (Err e) s h = absurd (h s)
+
+    by : (v : Bool) → (int_le low z && int_le z high) ≡ v → IsConverted {E = E} (λ z t. OkIff t (SFits w64 z) z) (cond v (Ok z) (Err OutOfRange)) r → r ≡ cond v (Ok z) (Err OutOfRange)
+    by true e h = h.2 ∙ held h.0 (fits_between low z high f g e) h.1
+    by false e h = h
+
+-- a number that was cut off and then converted
+pub converted_within : (E : Type 0) (negative : Bool) (low high : ℤ) (o : Option ℕ) (n : Option ℤ) (r : Result ℤ Misread) → SFits w64 low → SFits w64 high → n ≡ option_map (signed negative) (capped o) → IsConverted {E = E} (λ z t. OkIff t (SFits w64 z) z) (read_within low high n) r → r ≡ read_within low high (option_map (signed negative) o)
+converted_within E negative low high o n r f g e h = narrowed E low high n r f g h ∙ ap (read_within low high) e ∙ capped_within negative low high o f g

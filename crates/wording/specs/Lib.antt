@@ -1,3 +1,4 @@
 pub mod Pieces
 pub mod Numerals
 pub mod Caps
+pub mod Conversions

@@ -1,22 +1,17 @@
-ghost use Rattle.std.specs.Prelude.{◌≡◌, ℕ, true, false, IfOk, string_bytes, Option};
+ghost use Rattle.std.specs.Prelude.{◌≡◌, true, false, IfOk, string_bytes};
 ghost use Rattle.std.specs.Option.{option_map};
-ghost use Rattle.wording.specs.Numerals.{digit, digits, minus, unsigned, signed, integer, fraction, scaled, thousandths, read_within, read_below, thousandths_written};
+ghost use Rattle.wording.specs.Numerals.{digits, minus, unsigned, signed, integer, fraction, scaled, thousandths, read_within, read_below, thousandths_written};
 ghost use Rattle.wording.specs.Caps.{capped};
+ghost use Rattle.wording.specs.Conversions.{IsConverted};
 
 use crate::pieces::cut;
 use std::alloc::{AllocError, Global};
 
 // Why a word gives no number.
-#[derive(Clone, Copy, Drop)]
+#[derive(Clone, Copy, Debug, PartialEq, Eq, Drop)]
 pub enum Misread {
     NotANumber,
     OutOfRange,
-}
-
-fn is_digit(b: u8) -> bool
-    ensures { result ≡ digit b }
-{
-    b >= b'0' && b <= b'9'
 }
 
 // The number that decimal digits stand for, if it has 64 bits, or else the largest that has.
@@ -28,10 +23,12 @@ fn digits(text: &[u8]) -> Option<u64>
     }
     let mut value: u64 = 0;
     for b in text {
-        if !is_digit(*b) {
+        if !b.is_ascii_digit() {
             return None;
         }
-        value = value.saturating_mul(10).saturating_add((*b - b'0') as u64);
+        value = value
+            .saturating_mul(10)
+            .saturating_add(u64::from(*b - b'0'));
     }
     Some(value)
 }
@@ -46,57 +43,46 @@ fn sign(text: &[u8]) -> (bool, &[u8])
     }
 }
 
-fn with_sign(negative: bool, magnitude: u64) -> i128
+fn signed(negative: bool, magnitude: u64) -> i128
     ensures { result ≡ signed negative magnitude }
 {
-    if negative {
-        -(magnitude as i128)
-    } else {
-        magnitude as i128
-    }
+    let magnitude = i128::from(magnitude);
+    if negative { -magnitude } else { magnitude }
 }
 
-// Every number of 64 bits is nearer to zero than the largest u64, so one that was capped lies outside too.
-fn within(negative: bool, magnitude: Option<u64>, low: i64, high: i64) -> Result<i64, Misread>
-    ensures { (o : Option ℕ) → magnitude ≡ capped o → result ≡ read_within low high (option_map (signed negative) o) }
+// The whole number that a word stands for, with a magnitude cut off at 64 bits.
+fn integer(text: &[u8]) -> Option<i128>
+    ensures { result ≡ option_map (signed (minus text.now)) (capped (digits (unsigned text.now))) }
 {
-    let Some(magnitude) = magnitude else {
-        return Err(Misread::NotANumber);
-    };
-    let value = with_sign(negative, magnitude);
-    if value < low as i128 || value > high as i128 {
+    let (negative, text) = sign(text);
+    digits(text).map(|magnitude| signed(negative, magnitude))
+}
+
+// The number, if it lies from `low` to `high`, in the type of the answer.
+fn within<T: TryFrom<i128>>(number: Option<i128>, low: i128, high: i128) -> Result<T, Misread>
+where
+    T::Error: Drop,
+    ensures { IsConverted T.TryFrom.try_from_gives (read_within low high number) result }
+{
+    let number = number.ok_or(Misread::NotANumber)?;
+    if !(low..=high).contains(&number) {
         return Err(Misread::OutOfRange);
     }
-    Ok(value as i64)
+    T::try_from(number).map_err(|_| Misread::OutOfRange)
 }
 
 // The whole number that a word stands for, if it lies from `low` to `high`.
 pub fn integer_within(text: &[u8], low: i64, high: i64) -> Result<i64, Misread>
     ensures { result ≡ read_within low high (integer text.now) }
 {
-    let (negative, magnitude) = sign(text);
-    within(negative, digits(magnitude), low, high)
-}
-
-fn below(negative: bool, magnitude: Option<u64>, count: usize) -> Result<usize, Misread>
-    ensures { (o : Option ℕ) → magnitude ≡ capped o → result ≡ read_below count (option_map (signed negative) o) }
-{
-    let Some(magnitude) = magnitude else {
-        return Err(Misread::NotANumber);
-    };
-    let index = magnitude as usize;
-    if index >= count || negative && index != 0 {
-        return Err(Misread::OutOfRange);
-    }
-    Ok(index)
+    within(integer(text), i128::from(low), i128::from(high))
 }
 
 // The whole number that a word stands for, if it lies from 0 to below `count`.
 pub fn index_below(text: &[u8], count: usize) -> Result<usize, Misread>
     ensures { result ≡ read_below count (integer text.now) }
 {
-    let (negative, magnitude) = sign(text);
-    below(negative, digits(magnitude), count)
+    within(integer(text), 0, count as i128 - 1)
 }
 
 // One to three digits after the point, in thousandths.
@@ -115,22 +101,29 @@ fn fraction(text: &[u8]) -> Option<u64>
 fn scaled(text: &[u8]) -> Option<u64>
     ensures { result ≡ capped (scaled text.now) }
 {
-    match cut(text, b'.') {
-        Some((whole, after)) => {
-            let whole = digits(whole)?;
-            let after = fraction(after)?;
-            Some(whole.saturating_mul(1000).saturating_add(after))
-        }
-        None => Some(digits(text)?.saturating_mul(1000)),
-    }
+    let Some((whole, after)) = cut(text, b'.') else {
+        return Some(digits(text)?.saturating_mul(1000));
+    };
+    Some(
+        digits(whole)?
+            .saturating_mul(1000)
+            .saturating_add(fraction(after)?),
+    )
+}
+
+// The thousandths of a number, with a magnitude cut off at 64 bits.
+fn thousandths(text: &[u8]) -> Option<i128>
+    ensures { result ≡ option_map (signed (minus text.now)) (capped (scaled (unsigned text.now))) }
+{
+    let (negative, text) = sign(text);
+    scaled(text).map(|magnitude| signed(negative, magnitude))
 }
 
 // The thousandths of a number with up to three digits after the point, if they lie from `low` to `high`.
 pub fn thousandths_within(text: &[u8], low: i64, high: i64) -> Result<i64, Misread>
     ensures { result ≡ read_within low high (thousandths text.now) }
 {
-    let (negative, magnitude) = sign(text);
-    within(negative, scaled(magnitude), low, high)
+    within(thousandths(text), i128::from(low), i128::from(high))
 }
 
 // A number of thousandths, with three digits after the point.
@@ -139,6 +132,5 @@ pub fn written_thousandths(heap: Global, thousandths: i32) -> Result<String, All
 {
     let n = thousandths.unsigned_abs();
     let sign = if thousandths < 0 { "-" } else { "" };
-    let (whole, tenths, hundredths, last) = (n / 1000, n / 100 % 10, n / 10 % 10, n % 10);
-    format!(in heap; "{sign}{whole}.{tenths}{hundredths}{last}")
+    format!(in heap; "{sign}{}.{:03}", n / 1000, n % 1000)
 }

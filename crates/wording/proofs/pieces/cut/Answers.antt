@@ -1,9 +1,9 @@
-use Rattle.std.proofs.Common.{◌≡◌, rules, tests, refl, sym, ap, ◌∙◌, Some, None}
+use Rattle.std.proofs.Common.{rules, tests, sym, ◌∙◌, Some, None}
 use Rattle.std.specs.Bool.{◌==◌}
 use Rattle.std.proofs.lemmas.List.{take_rest}
 use Rattle.std.proofs.lemmas.Iterator.{YieldsList-from_slice}
 use Rattle.std.proofs.lemmas.Iterator.Search.{position_from_yields_List}
-use Rattle.wording.proofs.Cuts.{parts, cut_is}
+use Rattle.wording.proofs.Cuts.{cut_is}
 use Rattle.wording.proofs.pieces.cut.Goals as goal
 
 pub returns-in_err-i : goal.returns-in_err-i
