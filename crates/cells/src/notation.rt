@@ -27,21 +27,11 @@ impl Notation for Counts {
 
     fn read(word: &[u8]) -> Option<i32> {
         let count = integer_within(word, -0x8000_0000, 0x7fff_ffff).ok()?;
-        Some(count as i32)
+        i32::try_from(count).ok()
     }
 
     fn write(heap: Global, cell: i32) -> Result<String, AllocError> {
         format!(in heap; "{cell}")
-    }
-}
-
-// The weight of a number of kilograms.
-fn weight_of(word: &[u8]) -> Option<Weight>
-    ensures { result ≡ weight_read word.now }
-{
-    match thousandths_within(word, -2_000_000_000, 2_000_000_000) {
-        Ok(thousandths) => Weight::new(thousandths).ok(),
-        Err(_) => None,
     }
 }
 
@@ -51,7 +41,8 @@ impl Notation for Weights {
     ghost writes = { weight_written };
 
     fn read(word: &[u8]) -> Option<Weight> {
-        weight_of(word)
+        let thousandths = thousandths_within(word, -2_000_000_000, 2_000_000_000).ok()?;
+        Weight::new(thousandths).ok()
     }
 
     fn write(heap: Global, cell: Weight) -> Result<String, AllocError> {
