@@ -46,10 +46,13 @@ two ws = do
   _ ← none p.2
   Ok (p.0, p.1)
 
+abbrev pub cause_of : Cause → Misread → Cause
+cause_of outside NotANumber = NoNumber
+cause_of outside OutOfRange = outside
+
 abbrev pub caused : {X : Type 0} → Cause → Result X Misread → Result X Cause
 caused outside (Ok x) = Ok x
-caused outside (Err NotANumber) = Err NoNumber
-caused outside (Err OutOfRange) = Err outside
+caused outside (Err e) = Err (cause_of outside e)
 
 -- A number from 0 to below count, or from low to high, where `outside` is what is wrong with any other.
 abbrev pub below : ℕ → Cause → List ℕ → Result ℕ Cause

@@ -14,13 +14,13 @@ use Rattle.commands.specs.Arguments.{◌>>=◌, comment, none, one, two, next_tw
 use Rattle.commands.specs.Listings.{line}
 
 -- The reckoning of this name.
-abbrev pub chosen : List ℕ → Result (Option Chosen) Cause
-chosen w = cond (bytes_eq w (codes "counts")) (Ok (Some Counts)) (cond (bytes_eq w (codes "weights")) (Ok (Some Weights)) (Err UnknownReckoning))
+abbrev pub chosen : List ℕ → Result Chosen Cause
+chosen w = cond (bytes_eq w (codes "counts")) (Ok Counts) (cond (bytes_eq w (codes "weights")) (Ok Weights) (Err UnknownReckoning))
 
 -- The reckoning that a line names, or none where the line says nothing.
 abbrev pub reckoning : List (List ℕ) → Result (Option Chosen) Cause
 reckoning [] = Ok None
-reckoning (w ∷ ws) = cond (comment w) (Ok None) (cond (bytes_eq w (codes "reckoning")) (one ws >>= chosen) (Err NoReckoning))
+reckoning (w ∷ ws) = cond (comment w) (Ok None) (cond (bytes_eq w (codes "reckoning")) (one ws >>= chosen >>= λ c. Ok (Some c)) (Err NoReckoning))
 
 -- pc, sp, fp and ep; active and budget.
 abbrev pub pointer : List ℕ → Result ℤ Cause

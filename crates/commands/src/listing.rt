@@ -6,14 +6,15 @@ ghost use Rattle.commands.specs.Listings.{names, after_at, word, place, lone, pl
 ghost use Rattle.instructions.specs.Words.{low_bits};
 
 use crate::cause::Cause;
-use crate::words::{below, between, none};
+use crate::words::{between, none, unsigned};
 use instructions::NAMES;
 use wording::{first_word, is_word, place_of};
 
-fn number_of(name: &[u8]) -> Result<usize, Cause>
+fn number_of(name: &[u8]) -> Result<u8, Cause>
     ensures { result ≡ ok_or (place_of name.now names) Cause.UnknownInstruction }
 {
-    place_of(name, &NAMES).ok_or(Cause::UnknownInstruction)
+    let number = place_of(name, &NAMES).ok_or(Cause::UnknownInstruction)?;
+    u8::try_from(number).map_err(|_| Cause::UnknownInstruction)
 }
 
 // What stands after '@'.
@@ -30,18 +31,10 @@ fn after_at(word: &[u8]) -> Option<&[u8]>
 fn word_with(number: u8, operand: i64) -> Result<u32, Cause>
     ensures { result ≡ (if int_le (negsuc 8388607) operand && int_le operand (pos 8388607) then Ok (16777216 * number + low_bits operand) else Err Cause.OperandRange) }
 {
-    if operand < -0x80_0000 {
+    if !(-0x80_0000..=0x7f_ffff).contains(&operand) {
         return Err(Cause::OperandRange);
     }
-    if operand > 0x7f_ffff {
-        return Err(Cause::OperandRange);
-    }
-    let low = if operand < 0 {
-        operand + 0x100_0000
-    } else {
-        operand
-    };
-    Ok(0x100_0000 * number as u32 + low as u32)
+    Ok(0x100_0000 * u32::from(number) + operand.rem_euclid(0x100_0000) as u32)
 }
 
 // The word of a name that no operand follows.
@@ -51,7 +44,7 @@ fn bare(name: &[u8]) -> Result<u32, Cause>
     if is_word(name, "word") {
         return Err(Cause::MissingWord);
     }
-    word_with(number_of(name)? as u8, 0)
+    word_with(number_of(name)?, 0)
 }
 
 // The word of a name and its operand.
@@ -59,19 +52,17 @@ fn with_operand(name: &[u8], operand: &[u8]) -> Result<u32, Cause>
     ensures { result ≡ word name.now (Some operand.now) }
 {
     if is_word(name, "word") {
-        let number = below(operand, 0x1_0000_0000, Cause::WordRange)?;
-        return Ok(number as u32);
+        return unsigned(operand, Cause::WordRange);
     }
     let number = number_of(name)?;
     let operand = between(operand, -0x80_0000, 0x7f_ffff, Cause::OperandRange)?;
-    word_with(number as u8, operand)
+    word_with(number, operand)
 }
 
 fn place(word: &[u8]) -> Result<u32, Cause>
     ensures { result ≡ place (Some word.now) }
 {
-    let number = below(word, 0x1_0000_0000, Cause::PlaceRange)?;
-    Ok(number as u32)
+    unsigned(word, Cause::PlaceRange)
 }
 
 // A single word after the name is a place or an operand.

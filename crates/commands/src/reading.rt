@@ -5,13 +5,13 @@ ghost use Rattle.commands.specs.Commands.{chosen, reckoning, pointer, counter, s
 
 use crate::cause::Cause;
 use crate::listing;
-use crate::words::{below, between, is_comment, next_two, none, one, two};
+use crate::words::{below, is_comment, next_two, none, one, signed, two, unsigned};
 use cells::Notation;
 use machine::Registers;
 use wording::{first_word, is_word};
 
 // The reckoning that a script names.
-#[derive(Clone, Copy, Drop)]
+#[derive(Clone, Copy, Debug, PartialEq, Eq, Drop)]
 pub enum Chosen {
     Counts,
     Weights,
@@ -44,16 +44,21 @@ pub struct Context {
     pub registers: Option<Registers>,
 }
 
-fn named(name: &[u8]) -> Result<Option<Chosen>, Cause>
-    ensures { result ≡ chosen name.now }
-{
-    if is_word(name, "counts") {
-        return Ok(Some(Chosen::Counts));
+impl TryFrom<&[u8]> for Chosen {
+    ghost use Rattle.std.specs.Prelude.{◌≡◌};
+    ghost use Rattle.commands.specs.Commands.{chosen};
+
+    type Error = Cause;
+
+    ghost try_from_gives = { λ name r. r ≡ chosen name.now };
+
+    fn try_from(name: &[u8]) -> Result<Chosen, Cause> {
+        match name {
+            b"counts" => Ok(Chosen::Counts),
+            b"weights" => Ok(Chosen::Weights),
+            _ => Err(Cause::UnknownReckoning),
+        }
     }
-    if is_word(name, "weights") {
-        return Ok(Some(Chosen::Weights));
-    }
-    Err(Cause::UnknownReckoning)
 }
 
 // The reckoning that a line names, or None where the line says nothing.
@@ -69,21 +74,19 @@ pub fn reckoning_of(line: &[u8]) -> Result<Option<Chosen>, Cause>
     if !is_word(first, "reckoning") {
         return Err(Cause::NoReckoning);
     }
-    named(one(rest)?)
+    Chosen::try_from(one(rest)?).map(Some)
 }
 
 fn pointer(word: &[u8]) -> Result<i32, Cause>
     ensures { result ≡ pointer word.now }
 {
-    let number = between(word, -0x8000_0000, 0x7fff_ffff, Cause::RegisterRange)?;
-    Ok(number as i32)
+    signed(word, Cause::RegisterRange)
 }
 
 fn counter(word: &[u8]) -> Result<u32, Cause>
     ensures { result ≡ counter word.now }
 {
-    let number = below(word, 0x1_0000_0000, Cause::RegisterRange)?;
-    Ok(number as u32)
+    unsigned(word, Cause::RegisterRange)
 }
 
 fn six(line: &[u8]) -> Result<Registers, Cause>
@@ -149,19 +152,6 @@ fn listed<N: Notation>(first: &[u8], rest: &[u8]) -> Result<Command<N::Cell>, Ca
     Ok(Command::Word(word, place))
 }
 
-fn run_from<N: Notation>(
-    rest: &[u8],
-    registers: Option<Registers>,
-) -> Result<Command<N::Cell>, Cause>
-    ensures { result ≡ from N.Notation.reads registers (words rest.now) }
-{
-    none(rest)?;
-    match registers {
-        Some(registers) => Ok(Command::Run(registers)),
-        None => Err(Cause::NoRegisters),
-    }
-}
-
 // A line outside a listing that sets something.
 fn outside<N: Notation>(
     context: Context,
@@ -170,31 +160,28 @@ fn outside<N: Notation>(
 ) -> Result<Command<N::Cell>, Cause>
     ensures { result ≡ outside N.Notation.reads context first.now (words rest.now) }
 {
-    if is_word(first, "store") {
-        return Ok(Command::Store(store_size(rest)?));
+    match first {
+        b"store" => Ok(Command::Store(store_size(rest)?)),
+        b"cell" => {
+            let (at, value) = cell::<N>(rest, context.cells)?;
+            Ok(Command::Cell(at, value))
+        }
+        b"code" => {
+            none(rest)?;
+            Ok(Command::Code)
+        }
+        b"registers" => Ok(Command::Registers(six(rest)?)),
+        b"run" => {
+            none(rest)?;
+            Ok(Command::Run(context.registers.ok_or(Cause::NoRegisters)?))
+        }
+        b"show" => {
+            let (from, count) = shown(rest, context.cells)?;
+            Ok(Command::Show(from, count))
+        }
+        b"reckoning" => Err(Cause::SecondReckoning),
+        _ => Err(Cause::UnknownCommand),
     }
-    if is_word(first, "cell") {
-        let (at, value) = cell::<N>(rest, context.cells)?;
-        return Ok(Command::Cell(at, value));
-    }
-    if is_word(first, "code") {
-        none(rest)?;
-        return Ok(Command::Code);
-    }
-    if is_word(first, "registers") {
-        return Ok(Command::Registers(six(rest)?));
-    }
-    if is_word(first, "run") {
-        return run_from::<N>(rest, context.registers);
-    }
-    if is_word(first, "show") {
-        let (from, count) = shown(rest, context.cells)?;
-        return Ok(Command::Show(from, count));
-    }
-    if is_word(first, "reckoning") {
-        return Err(Cause::SecondReckoning);
-    }
-    Err(Cause::UnknownCommand)
 }
 
 // The command of a line. A blank line and a comment say nothing.

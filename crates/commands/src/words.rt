@@ -1,7 +1,7 @@
 // The words after the first of a line.
-ghost use Rattle.std.specs.Prelude.{◌≡◌};
+ghost use Rattle.std.specs.Prelude.{◌≡◌, pos, negsuc};
 ghost use Rattle.wording.specs.Pieces.{words};
-ghost use Rattle.commands.specs.Arguments.{none, next, one, next_two, two, below, between, comment, word_of, pair_of, next_of, rest_of};
+ghost use Rattle.commands.specs.Arguments.{cause_of, none, next, one, next_two, two, below, between, comment, word_of, pair_of, next_of, rest_of};
 
 use crate::cause::Cause;
 use wording::{Misread, first_word, index_below, integer_within};
@@ -10,10 +10,7 @@ use wording::{Misread, first_word, index_below, integer_within};
 pub(crate) fn is_comment(word: &[u8]) -> bool
     ensures { result ≡ comment word.now }
 {
-    match word {
-        [first, ..] => *first == b'#',
-        [] => false,
-    }
+    matches!(word, [b'#', ..])
 }
 
 pub(crate) fn none(line: &[u8]) -> Result<(), Cause>
@@ -29,10 +26,7 @@ pub(crate) fn none(line: &[u8]) -> Result<(), Cause>
 fn next(line: &[u8]) -> Result<(&[u8], &[u8]), Cause>
     ensures { next_of result ≡ next (words line.now) }
 {
-    match first_word(line) {
-        Some(parts) => Ok(parts),
-        None => Err(Cause::MissingWord),
-    }
+    first_word(line).ok_or(Cause::MissingWord)
 }
 
 pub(crate) fn one(line: &[u8]) -> Result<&[u8], Cause>
@@ -60,24 +54,42 @@ pub(crate) fn two(line: &[u8]) -> Result<(&[u8], &[u8]), Cause>
     Ok((first, second))
 }
 
+// What is wrong with a word that gave no number, where `outside` is the cause of one out of range.
+fn cause_of(misread: Misread, outside: Cause) -> Cause
+    ensures { result ≡ cause_of outside misread }
+{
+    match misread {
+        Misread::NotANumber => Cause::NotANumber,
+        Misread::OutOfRange => outside,
+    }
+}
+
 // A number from 0 to below `count`, where `outside` is what is wrong with any other.
 pub(crate) fn below(word: &[u8], count: usize, outside: Cause) -> Result<usize, Cause>
     ensures { result ≡ below count outside word.now }
 {
-    match index_below(word, count) {
-        Ok(number) => Ok(number),
-        Err(Misread::NotANumber) => Err(Cause::NotANumber),
-        Err(Misread::OutOfRange) => Err(outside),
-    }
+    index_below(word, count).map_err(|misread| cause_of(misread, outside))
 }
 
 // A number from `low` to `high`, where `outside` is what is wrong with any other.
 pub(crate) fn between(word: &[u8], low: i64, high: i64, outside: Cause) -> Result<i64, Cause>
     ensures { result ≡ between low high outside word.now }
 {
-    match integer_within(word, low, high) {
-        Ok(number) => Ok(number),
-        Err(Misread::NotANumber) => Err(Cause::NotANumber),
-        Err(Misread::OutOfRange) => Err(outside),
-    }
+    integer_within(word, low, high).map_err(|misread| cause_of(misread, outside))
+}
+
+// A number of 32 bits and no sign, where `outside` is what is wrong with any other.
+pub(crate) fn unsigned(word: &[u8], outside: Cause) -> Result<u32, Cause>
+    ensures { result ≡ below 4294967296 outside word.now }
+{
+    let number = below(word, 0x1_0000_0000, outside)?;
+    u32::try_from(number).map_err(|_| outside)
+}
+
+// A number of 32 bits, one of them its sign, where `outside` is what is wrong with any other.
+pub(crate) fn signed(word: &[u8], outside: Cause) -> Result<i32, Cause>
+    ensures { result ≡ between (negsuc 2147483647) (pos 2147483647) outside word.now }
+{
+    let number = between(word, -0x8000_0000, 0x7fff_ffff, outside)?;
+    i32::try_from(number).map_err(|_| outside)
 }

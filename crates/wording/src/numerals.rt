@@ -119,7 +119,7 @@ fn thousandths(text: &[u8]) -> Option<i128>
     scaled(text).map(|magnitude| signed(negative, magnitude))
 }
 
-// The thousandths of a number with up to three digits after the point, if they lie from `low` to `high`.
+// The thousandths of a number with up to three digits after the point, if they are in the range.
 pub fn thousandths_within(text: &[u8], low: i64, high: i64) -> Result<i64, Misread>
     ensures { result ≡ read_within low high (thousandths text.now) }
 {
