@@ -4,18 +4,26 @@ use Rattle.std.specs.List.{prefix_len}
 use Rattle.std.proofs.lemmas.List.Sums.{prefix_len-le-length}
 use Rattle.std.proofs.lemmas.List.{nil_from_length}
 use Rattle.std.proofs.lemmas.Bool.{cond-true, or_left, eqb-true, true≢false}
-use Rattle.tokens.specs.declared.bytes.Class.TheVariants.{Digit}
 use Rattle.tokens.specs.declared.fault.Cause.{Cause}
 use Rattle.tokens.specs.declared.lexemes.Sign.{Sign}
 use Rattle.tokens.specs.Tokens.{Lexeme, Measured, letter, digit, inner, run, sized, numbered, single, double, short, long, signed, begun, front_of, gap, at_place, some_piece, placed, next}
 
-pub front_digit : (bs : List ℕ) → 0 < length bs → letter (get_or bs 0 0) ≡ false → digit (get_or bs 0 0) ≡ true → front_of bs ≡ sized (prefix_len digit bs) (numbered (run Digit bs))
+pub front_digit : (bs : List ℕ) → 0 < length bs → letter (get_or bs 0 0) ≡ false → digit (get_or bs 0 0) ≡ true → front_of bs ≡ sized (prefix_len digit bs) (numbered (run digit bs))
 front_digit [] h e g = absurd (omega arith)
 front_digit (b ∷ bs) h e g = ap₂ (λ x y. begun x y b bs) e g
 
 pub front_sign : (bs : List ℕ) → 0 < length bs → letter (get_or bs 0 0) ≡ false → digit (get_or bs 0 0) ≡ false → front_of bs ≡ signed (get_or bs 0 0) (drop 1 bs)
 front_sign [] h e g = absurd (omega arith)
 front_sign (b ∷ bs) h e g = ap₂ (λ x y. begun x y b bs) e g
+
+-- A sign of one byte, where no second byte makes it one of two.
+pub signed_none : (a : ℕ) (bs : List ℕ) → length bs < 1 → signed a bs ≡ short (single a)
+signed_none a [] h = refl
+signed_none a (b ∷ bs) h = absurd (omega arith)
+
+pub signed_short : (a : ℕ) (bs : List ℕ) → 1 ≤ length bs → None ≡ double a (get_or bs 0 0) → signed a bs ≡ short (single a)
+signed_short a [] h e = absurd (omega arith)
+signed_short a (b ∷ bs) h e = ap (λ o. long o (short (single a))) (sym e)
 
 at_some : (p : ℕ) (bs : List ℕ) → eqb (length bs) 0 ≡ false → at_place p bs ≡ some_piece (placed p (front_of bs))
 at_some p [] h = absurd (true≢false h)

@@ -3,8 +3,6 @@ use Rattle.std.specs.Prelude.{ℕ, zero, suc, ◌+◌, ◌-◌, ◌*◌, min, Bo
 use Rattle.std.specs.Char.{is_ascii_digit, is_ascii_alphabetic}
 use Rattle.std.specs.List.{prefix_len}
 use Rattle.std.specs.Str.{bytes_eq}
-use Rattle.tokens.specs.declared.bytes.Class.{Class}
-use Rattle.tokens.specs.declared.bytes.Class.TheVariants.{Gap, Inner, Digit}
 use Rattle.tokens.specs.declared.fault.Cause.{Cause}
 use Rattle.tokens.specs.declared.fault.Cause.TheVariants.{Stray, Limit, Count}
 use Rattle.tokens.specs.declared.fault.Fault.{Fault}
@@ -32,11 +30,6 @@ letter b = is_ascii_alphabetic b || b == 95
 -- what a name goes on with
 abbrev pub inner : ℕ → Bool
 inner b = letter b || digit b
-
-abbrev pub of : Class → ℕ → Bool
-of Gap b = gap b
-of Inner b = inner b
-of Digit b = digit b
 
 abbrev pub word_text : Word → List ℕ
 word_text Int = codes "int"
@@ -138,14 +131,14 @@ abbrev pub signed : ℕ → List ℕ → Measured
 signed a [] = short (single a)
 signed a (b ∷ bs) = long (double a b) (short (single a))
 
--- the longest front of one class
-abbrev pub run : Class → List ℕ → List ℕ
-run c bs = take (prefix_len (of c) bs) bs
+-- the longest front whose bytes all pass a test
+abbrev pub run : (ℕ → Bool) → List ℕ → List ℕ
+run test bs = take (prefix_len test bs) bs
 
 -- What a byte and those behind it begin with, by whether it is a letter and whether it is a digit.
 abbrev pub begun : Bool → Bool → ℕ → List ℕ → Measured
-begun true d b bs = sized (prefix_len inner (b ∷ bs)) (named (run Inner (b ∷ bs)) (kept (run Inner (b ∷ bs))))
-begun false true b bs = sized (prefix_len digit (b ∷ bs)) (numbered (run Digit (b ∷ bs)))
+begun true d b bs = sized (prefix_len inner (b ∷ bs)) (named (run inner (b ∷ bs)) (kept (run inner (b ∷ bs))))
+begun false true b bs = sized (prefix_len digit (b ∷ bs)) (numbered (run digit (b ∷ bs)))
 begun false false b bs = signed b bs
 
 -- The longest token at the front of some bytes.

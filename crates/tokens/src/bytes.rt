@@ -1,25 +1,12 @@
 // The classes of bytes, and the longest run of one.
-ghost use Rattle.std.specs.Prelude.{◌≡◌, ◌≤◌, length};
+ghost use Rattle.std.specs.Prelude.{◌≡◌};
 ghost use Rattle.std.specs.List.{prefix_len};
-ghost use Rattle.tokens.specs.Tokens.{gap, letter, digit, of};
-
-#[derive(Clone, Copy, Drop)]
-pub(crate) enum Class {
-    Gap,
-    Inner,
-    Digit,
-}
+ghost use Rattle.tokens.specs.Tokens.{gap, letter, digit, inner};
 
 fn is_gap(byte: u8) -> bool
     ensures { result ≡ gap byte }
 {
-    matches!(byte, 9 | 10 | 13 | 32)
-}
-
-pub(crate) fn is_digit(byte: u8) -> bool
-    ensures { result ≡ digit byte }
-{
-    matches!(byte, b'0'..=b'9')
+    matches!(byte, b'\t' | b'\n' | b'\r' | b' ')
 }
 
 pub(crate) fn is_letter(byte: u8) -> bool
@@ -28,24 +15,30 @@ pub(crate) fn is_letter(byte: u8) -> bool
     matches!(byte, b'A'..=b'Z' | b'a'..=b'z' | b'_')
 }
 
-fn is_of(class: Class, byte: u8) -> bool
-    ensures { result ≡ of class byte }
+fn is_inner(byte: u8) -> bool
+    ensures { result ≡ inner byte }
 {
-    match class {
-        Class::Gap => is_gap(byte),
-        Class::Inner => is_letter(byte) || is_digit(byte),
-        Class::Digit => is_digit(byte),
-    }
+    is_letter(byte) || byte.is_ascii_digit()
 }
 
-// How many bytes at the front are of a class.
-pub(crate) fn run_length(bytes: &[u8], class: Class) -> usize
-    ensures is { result ≡ prefix_len (of class) bytes.now }
-    ensures within { result ≤ length bytes.now }
+// How many bytes at the front are gaps.
+pub(crate) fn gaps_length(bytes: &[u8]) -> usize
+    ensures { result ≡ prefix_len gap bytes.now }
 {
-    let mut count = 0;
-    while count < bytes.len() && is_of(class, bytes[count]) {
-        count += 1;
-    }
-    count
+    bytes.iter().take_while(|byte| is_gap(**byte)).count()
+}
+
+pub(crate) fn inner_length(bytes: &[u8]) -> usize
+    ensures { result ≡ prefix_len inner bytes.now }
+{
+    bytes.iter().take_while(|byte| is_inner(**byte)).count()
+}
+
+pub(crate) fn digits_length(bytes: &[u8]) -> usize
+    ensures { result ≡ prefix_len digit bytes.now }
+{
+    bytes
+        .iter()
+        .take_while(|byte| byte.is_ascii_digit())
+        .count()
 }

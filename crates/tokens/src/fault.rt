@@ -2,18 +2,18 @@ ghost use Rattle.std.specs.Prelude.{◌≡◌};
 ghost use Rattle.tokens.specs.Tokens.{cause_number};
 
 // What a text is refused for.
-#[derive(Clone, Copy, Drop)]
+#[derive(Debug, Clone, Copy, PartialEq, Eq, Drop)]
 pub enum Cause {
     // a byte that is neither a gap nor in a token
-    Stray,
+    Stray = 3,
     // a name or a number past its limit, or a number with a needless 0
-    Limit,
+    Limit = 4,
     // a token too many
-    Count,
+    Count = 5,
 }
 
 // The earliest fault of a text, at a byte offset.
-#[derive(Clone, Copy, Drop)]
+#[derive(Debug, Clone, Copy, PartialEq, Eq, Drop)]
 pub struct Fault {
     pub cause: Cause,
     pub place: usize,
@@ -23,10 +23,6 @@ impl Fault {
     pub fn number(&self) -> u8
         ensures { result ≡ cause_number self.now.cause }
     {
-        match self.cause {
-            Cause::Stray => 3,
-            Cause::Limit => 4,
-            Cause::Count => 5,
-        }
+        self.cause as u8
     }
 }

@@ -1,5 +1,5 @@
 // The words that are no names.
-#[derive(Clone, Copy, Drop)]
+#[derive(Debug, Clone, Copy, PartialEq, Eq, Drop)]
 pub enum Word {
     Int,
     If,
@@ -9,7 +9,7 @@ pub enum Word {
     Return,
 }
 
-#[derive(Clone, Copy, Drop)]
+#[derive(Debug, Clone, Copy, PartialEq, Eq, Drop)]
 pub enum Sign {
     OpenRound,
     CloseRound,
@@ -35,7 +35,7 @@ pub enum Sign {
 }
 
 // A name and a number borrow their part of the text; a number has its value beside its digits.
-#[derive(Clone, Copy, Drop)]
+#[derive(Debug, Clone, Copy, PartialEq, Eq, Drop)]
 pub enum Token<'a> {
     Word(Word),
     Sign(Sign),
@@ -44,7 +44,7 @@ pub enum Token<'a> {
 }
 
 // A token, the place of its first byte, and the place behind its last.
-#[derive(Clone, Copy, Drop)]
+#[derive(Debug, Clone, Copy, PartialEq, Eq, Drop)]
 pub struct Found<'a> {
     pub token: Token<'a>,
     pub place: usize,

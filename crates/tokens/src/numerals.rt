@@ -15,8 +15,5 @@ pub(crate) fn value_of(digits: &[u8]) -> u32
 pub(crate) fn has_needless_zero(digits: &[u8]) -> bool
     ensures { result ≡ needless digits.now }
 {
-    match digits {
-        [first, _, ..] => *first == b'0',
-        _ => false,
-    }
+    matches!(digits, [b'0', _, ..])
 }

@@ -1,10 +1,10 @@
 // The token at an offset of a text.
-ghost use Rattle.std.specs.Prelude.{◌≡◌, ◌<◌, [], length, drop};
-ghost use Rattle.tokens.specs.Tokens.{kept, named, numbered, signed, sized, front_of, next};
+ghost use Rattle.std.specs.Prelude.{◌≡◌, ◌<◌, length, drop};
+ghost use Rattle.tokens.specs.Tokens.{kept, named, numbered, signed, front_of, next};
 ghost use Rattle.tokens.specs.Laws.{First};
 ghost use Rattle.tokens.specs.Answers.{lexed, measured, answered};
 
-use crate::bytes::{Class, is_digit, is_letter, run_length};
+use crate::bytes::{digits_length, gaps_length, inner_length, is_letter};
 use crate::fault::{Cause, Fault};
 use crate::lexemes::{Found, Token};
 use crate::numerals::{has_needless_zero, value_of};
@@ -14,11 +14,7 @@ use crate::spellings::{kept_word, one_character, two_characters};
 fn rest(text: &[u8], from: usize) -> &[u8]
     ensures { result.now ≡ drop from text.now }
 {
-    if from < text.len() {
-        &text[from..]
-    } else {
-        &[]
-    }
+    text.get(from..).unwrap_or(&[])
 }
 
 // A kept word, or else a name of at most 24 bytes.
@@ -27,13 +23,8 @@ fn word_or_name<'a>(bytes: &'a [u8]) -> Result<Token<'a>, Cause>
 {
     match kept_word(bytes) {
         Some(word) => Ok(Token::Word(word)),
-        None => {
-            if bytes.len() <= 24 {
-                Ok(Token::Name(bytes))
-            } else {
-                Err(Cause::Limit)
-            }
-        }
+        None if bytes.len() <= 24 => Ok(Token::Name(bytes)),
+        None => Err(Cause::Limit),
     }
 }
 
@@ -49,38 +40,19 @@ fn number<'a>(digits: &'a [u8]) -> Result<Token<'a>, Cause>
     }
 }
 
-fn short_sign(first: u8) -> Result<(Token<'static>, usize), Cause>
-    ensures { measured result ≡ signed first [] }
-{
-    match one_character(first as char) {
-        Some(sign) => Ok((Token::Sign(sign), 1)),
-        None => Err(Cause::Stray),
-    }
-}
-
 // The sign of the first two bytes, or else of the first.
 fn sign(first: u8, behind: &[u8]) -> Result<(Token<'static>, usize), Cause>
     ensures { measured result ≡ signed first behind.now }
 {
-    match behind {
-        [] => short_sign(first),
-        [second, ..] => match two_characters(first as char, *second as char) {
-            Some(sign) => Ok((Token::Sign(sign), 2)),
-            None => short_sign(first),
-        },
+    let first = char::from(first);
+    if let [second, ..] = behind
+        && let Some(sign) = two_characters(first, char::from(*second))
+    {
+        return Ok((Token::Sign(sign), 2));
     }
-}
-
-fn of_length<'a>(
-    token: Result<Token<'a>, Cause>,
-    length: usize,
-) -> Result<(Token<'a>, usize), Cause>
-    ensures { measured result ≡ sized length (lexed token.entry) }
-{
-    match token {
-        Ok(token) => Ok((token, length)),
-        Err(cause) => Err(cause),
-    }
+    one_character(first)
+        .map(|sign| (Token::Sign(sign), 1))
+        .ok_or(Cause::Stray)
 }
 
 // The longest token at the front, and its length.
@@ -90,11 +62,11 @@ fn front<'a>(bytes: &'a [u8]) -> Result<(Token<'a>, usize), Cause>
 {
     let first = bytes[0];
     if is_letter(first) {
-        let length = run_length(bytes, Class::Inner);
-        of_length(word_or_name(&bytes[0..length]), length)
-    } else if is_digit(first) {
-        let length = run_length(bytes, Class::Digit);
-        of_length(number(&bytes[0..length]), length)
+        let length = inner_length(bytes);
+        word_or_name(&bytes[..length]).map(|token| (token, length))
+    } else if first.is_ascii_digit() {
+        let length = digits_length(bytes);
+        number(&bytes[..length]).map(|token| (token, length))
     } else {
         sign(first, &bytes[1..])
     }
@@ -103,19 +75,17 @@ fn front<'a>(bytes: &'a [u8]) -> Result<(Token<'a>, usize), Cause>
 pub(crate) fn token_from<'a>(text: &'a [u8], from: usize) -> Result<Option<Found<'a>>, Fault>
     ensures { answered result ≡ next text.now from }
 {
-    let place = from + run_length(rest(text, from), Class::Gap);
+    let place = from + gaps_length(rest(text, from));
     let bytes = rest(text, place);
     if bytes.is_empty() {
         return Ok(None);
     }
-    match front(bytes) {
-        Ok((token, length)) => Ok(Some(Found {
-            token,
-            place,
-            end: place + length,
-        })),
-        Err(cause) => Err(Fault { cause, place }),
-    }
+    let (token, length) = front(bytes).map_err(|cause| Fault { cause, place })?;
+    Ok(Some(Found {
+        token,
+        place,
+        end: place + length,
+    }))
 }
 
 // The first token from an offset on, its place and where it ends; none where only gaps are left.

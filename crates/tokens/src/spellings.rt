@@ -1,33 +1,20 @@
 // What kept words and signs are spelled with.
 ghost use Rattle.std.specs.Prelude.{◌≡◌};
-ghost use Rattle.std.specs.Str.{bytes_eq};
 ghost use Rattle.tokens.specs.Tokens.{kept, single, double};
 
 use crate::lexemes::{Sign, Word};
 
-fn same(bytes: &[u8], word: &[u8]) -> bool
-    ensures { result ≡ bytes_eq bytes.now word.now }
-{
-    bytes == word
-}
-
 pub(crate) fn kept_word(bytes: &[u8]) -> Option<Word>
     ensures { result ≡ kept bytes.now }
 {
-    if same(bytes, b"int") {
-        Some(Word::Int)
-    } else if same(bytes, b"if") {
-        Some(Word::If)
-    } else if same(bytes, b"else") {
-        Some(Word::Else)
-    } else if same(bytes, b"while") {
-        Some(Word::While)
-    } else if same(bytes, b"for") {
-        Some(Word::For)
-    } else if same(bytes, b"return") {
-        Some(Word::Return)
-    } else {
-        None
+    match bytes {
+        b"int" => Some(Word::Int),
+        b"if" => Some(Word::If),
+        b"else" => Some(Word::Else),
+        b"while" => Some(Word::While),
+        b"for" => Some(Word::For),
+        b"return" => Some(Word::Return),
+        _ => None,
     }
 }
 
