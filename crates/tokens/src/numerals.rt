@@ -1,15 +1,14 @@
 ghost use Rattle.std.specs.Prelude.{◌≡◌, min};
 ghost use Rattle.tokens.specs.Tokens.{value, needless};
 
-// What digits are worth. All past 16,383 are refused alike, so that the sum stays at the first of these.
+// What digits are worth. All past 16,383 are refused alike, so that the sum may stop at the largest u32.
 pub(crate) fn value_of(digits: &[u8]) -> u32
-    ensures { result ≡ min (value digits.now) 16384 }
+    ensures { result ≡ min (value digits.now) 4294967295 }
 {
-    let mut sum: u32 = 0;
-    for digit in digits {
-        sum = (10 * sum + digit.saturating_sub(b'0') as u32).min(16384);
-    }
-    sum
+    digits.iter().fold(0, |sum: u32, digit| {
+        sum.saturating_mul(10)
+            .saturating_add(u32::from(digit.saturating_sub(b'0')))
+    })
 }
 
 pub(crate) fn has_needless_zero(digits: &[u8]) -> bool

@@ -18,7 +18,7 @@ fn rest(text: &[u8], from: usize) -> &[u8]
 }
 
 // A kept word, or else a name of at most 24 bytes.
-fn word_or_name<'a>(bytes: &'a [u8]) -> Result<Token<'a>, Cause>
+fn word_or_name(bytes: &[u8]) -> Result<Token<'_>, Cause>
     ensures { lexed result ≡ named bytes.now (kept bytes.now) }
 {
     match kept_word(bytes) {
@@ -29,7 +29,7 @@ fn word_or_name<'a>(bytes: &'a [u8]) -> Result<Token<'a>, Cause>
 }
 
 // A number of at most 16,383, without a needless 0.
-fn number<'a>(digits: &'a [u8]) -> Result<Token<'a>, Cause>
+fn number(digits: &[u8]) -> Result<Token<'_>, Cause>
     ensures { lexed result ≡ numbered digits.now }
 {
     let value = value_of(digits);
@@ -56,7 +56,7 @@ fn sign(first: u8, behind: &[u8]) -> Result<(Token<'static>, usize), Cause>
 }
 
 // The longest token at the front, and its length.
-fn front<'a>(bytes: &'a [u8]) -> Result<(Token<'a>, usize), Cause>
+fn front(bytes: &[u8]) -> Result<(Token<'_>, usize), Cause>
     requires { 0 < length bytes.now }
     ensures { measured result ≡ front_of bytes.now }
 {
@@ -72,7 +72,7 @@ fn front<'a>(bytes: &'a [u8]) -> Result<(Token<'a>, usize), Cause>
     }
 }
 
-pub(crate) fn token_from<'a>(text: &'a [u8], from: usize) -> Result<Option<Found<'a>>, Fault>
+pub(crate) fn token_from(text: &[u8], from: usize) -> Result<Option<Found<'_>>, Fault>
     ensures { answered result ≡ next text.now from }
 {
     let place = from + gaps_length(rest(text, from));
@@ -89,7 +89,7 @@ pub(crate) fn token_from<'a>(text: &'a [u8], from: usize) -> Result<Option<Found
 }
 
 // The first token from an offset on, its place and where it ends; none where only gaps are left.
-pub fn next_token<'a>(text: &'a [u8], from: usize) -> Result<Option<Found<'a>>, Fault>
+pub fn next_token(text: &[u8], from: usize) -> Result<Option<Found<'_>>, Fault>
     ensures is { answered result ≡ next text.now from }
     ensures first { First from (drop from text.now) (answered result) }
 {

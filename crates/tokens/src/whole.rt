@@ -1,21 +1,15 @@
 // The tokens of a whole text.
-ghost use Rattle.std.specs.Prelude.{◌≡◌, min};
+ghost use Rattle.std.specs.Prelude.{◌≡◌};
 ghost use Rattle.tokens.specs.Laws.{Whole};
 ghost use Rattle.tokens.specs.Tokens.{tokens, number_of};
 
 use crate::fault::{Cause, Fault};
 use crate::reader::token_from;
 
-fn at_most(records: usize) -> usize
-    ensures { result ≡ min records 4096 }
-{
-    records.min(4096)
-}
-
 fn count_tokens(text: &[u8], records: usize) -> Result<usize, Fault>
     ensures { result ≡ number_of (tokens text.now records) }
 {
-    let limit = at_most(records);
+    let limit = records.min(4096);
     let mut count = 0;
     let mut from = 0;
     while let Some(found) = token_from(text, from)? {

@@ -7,18 +7,18 @@ use Rattle.tokens.proofs.whole.count_tokens.Goals as goal
 
 pub loop-found-init : goal.loop-found-init
 loop-found-init c =
-    let whole : c.at_most-limit.result - 0 ≡ c.at_most-limit.result = omega arith in
-    (ap (λ l. added 0 (from_place l 0 0 c.args.text.now)) (whole ∙ c.at_most-limit.ensures) ∙ added_none _, zero-le)
+    let whole : c.min-limit.result - 0 ≡ c.min-limit.result = omega arith in
+    (ap (λ l. added 0 (from_place l 0 0 c.args.text.now)) (whole ∙ c.min-limit.ensures) ∙ added_none _, zero-le)
 
 pub returns-in_err-found : goal.returns-in_err-found
 returns-in_err-found c =
     let p = err_from_is_err_and c.from_residual.result c.from_residual.ensures.1 in
-    p.1 ∙ ap Err p.2 ∙ at_fault c.args.text.now c.loop-found.from c.at_most-limit.result c.loop-found.count _ c.loop-found.invariant.0 _ c.in_err-found.ensures
+    p.1 ∙ ap Err p.2 ∙ at_fault c.args.text.now c.loop-found.from c.min-limit.result c.loop-found.count _ c.loop-found.invariant.0 _ c.in_err-found.ensures
 
 pub returns-then-count-limit : goal.returns-then-count-limit
 returns-then-count-limit c =
     let seen = ap (λ o. answered (Ok o)) (sym c.in-Some.is) ∙ c.in_ok-found.ensures in
-    at_limit c.args.text.now c.loop-found.from c.at_most-limit.result c.loop-found.count _ c.loop-found.invariant.0 (piece_of c.in-Some.found) seen c.if-count-limit.true
+    at_limit c.args.text.now c.loop-found.from c.min-limit.result c.loop-found.count _ c.loop-found.invariant.0 (piece_of c.in-Some.found) seen c.if-count-limit.true
 
 pub loop-found-smaller : goal.loop-found-smaller
 loop-found-smaller c =
@@ -29,10 +29,10 @@ loop-found-smaller c =
 pub loop-found-preserved : goal.loop-found-preserved
 loop-found-preserved c =
     let seen = ap (λ o. answered (Ok o)) (sym c.in-Some.is) ∙ c.in_ok-found.ensures in
-    let below : c.loop-found.count < c.at_most-limit.result = omega (arith, c.loop-found.invariant.1, c.if-count-limit.false) in
-    (at_token c.args.text.now c.loop-found.from c.at_most-limit.result c.loop-found.count _ c.loop-found.invariant.0 (piece_of c.in-Some.found) seen below, omega arith)
+    let below : c.loop-found.count < c.min-limit.result = omega (arith, c.loop-found.invariant.1, c.if-count-limit.false) in
+    (at_token c.args.text.now c.loop-found.from c.min-limit.result c.loop-found.count _ c.loop-found.invariant.0 (piece_of c.in-Some.found) seen below, omega arith)
 
 pub returns : goal.returns
 returns c =
     let seen = ap (λ o. answered (Ok o)) (sym c.in_default.is) ∙ c.in_ok-found.ensures in
-    at_end c.args.text.now c.loop-found.from c.at_most-limit.result c.loop-found.count _ c.loop-found.invariant.0 seen
+    at_end c.args.text.now c.loop-found.from c.min-limit.result c.loop-found.count _ c.loop-found.invariant.0 seen
