@@ -3,7 +3,7 @@ ghost use Rattle.std.specs.Prelude.{◌≡◌, length};
 ghost use Rattle.tokens.specs.Tokens.{tokens};
 ghost use Rattle.sheet.specs.Nodes.{filled, shown, told, meant};
 
-use crate::nodes::{Node, record};
+use crate::nodes::Node;
 use tokens::{Cause, Fault, next_token};
 
 // How many tokens a text has, each shown by its record: at most 4,096, and at most as many as there are records.
@@ -21,7 +21,7 @@ pub fn fill(text: &[u8], nodes: &mut [Node]) -> Result<usize, Fault>
                 place: found.place,
             });
         }
-        nodes[count] = record(found);
+        nodes[count] = found.into();
         count += 1;
         from = found.end;
     }

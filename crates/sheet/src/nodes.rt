@@ -7,7 +7,7 @@ use reckoning::{Comparison, Operator};
 use tokens::{Found, Sign, Token, Word};
 
 // The tokens that say nothing but which they are.
-#[derive(Clone, Copy, Drop)]
+#[derive(Debug, Clone, Copy, PartialEq, Eq, Drop)]
 pub enum Mark {
     Round,
     EndRound,
@@ -44,64 +44,72 @@ pub struct Node {
     pub end: usize,
 }
 
-fn kind_of_word(word: Word) -> Kind
-    ensures { result ≡ kind_of_word word }
-{
-    match word {
-        Word::Int => Kind::Mark(Mark::Int),
-        Word::If => Kind::Mark(Mark::If),
-        Word::Else => Kind::Mark(Mark::Else),
-        Word::While => Kind::Mark(Mark::While),
-        Word::For => Kind::Mark(Mark::For),
-        Word::Return => Kind::Mark(Mark::Return),
+impl From<Word> for Kind {
+    ghost from_gives = { λ word kind. kind ≡ kind_of_word word };
+
+    fn from(word: Word) -> Self {
+        match word {
+            Word::Int => Kind::Mark(Mark::Int),
+            Word::If => Kind::Mark(Mark::If),
+            Word::Else => Kind::Mark(Mark::Else),
+            Word::While => Kind::Mark(Mark::While),
+            Word::For => Kind::Mark(Mark::For),
+            Word::Return => Kind::Mark(Mark::Return),
+        }
     }
 }
 
-fn kind_of_sign(sign: Sign) -> Kind
-    ensures { result ≡ kind_of_sign sign }
-{
-    match sign {
-        Sign::OpenRound => Kind::Mark(Mark::Round),
-        Sign::CloseRound => Kind::Mark(Mark::EndRound),
-        Sign::OpenCurly => Kind::Mark(Mark::Brace),
-        Sign::CloseCurly => Kind::Mark(Mark::EndBrace),
-        Sign::OpenSquare => Kind::Mark(Mark::Square),
-        Sign::CloseSquare => Kind::Mark(Mark::EndSquare),
-        Sign::Semicolon => Kind::Mark(Mark::Semicolon),
-        Sign::Comma => Kind::Mark(Mark::Comma),
-        Sign::Becomes => Kind::Equals,
-        Sign::Plus => Kind::Operator(Operator::Add),
-        Sign::Minus => Kind::Operator(Operator::Subtract),
-        Sign::Star => Kind::Operator(Operator::Multiply),
-        Sign::Slash => Kind::Operator(Operator::Divide),
-        Sign::Percent => Kind::Operator(Operator::Remainder),
-        Sign::Less => Kind::Operator(Operator::Compare(Comparison::Less)),
-        Sign::Greater => Kind::Operator(Operator::Compare(Comparison::Greater)),
-        Sign::Bang => Kind::Exclamation,
-        Sign::AtMost => Kind::Operator(Operator::Compare(Comparison::AtMost)),
-        Sign::AtLeast => Kind::Operator(Operator::Compare(Comparison::AtLeast)),
-        Sign::Equal => Kind::Operator(Operator::Compare(Comparison::Equal)),
-        Sign::NotEqual => Kind::Operator(Operator::Compare(Comparison::NotEqual)),
+impl From<Sign> for Kind {
+    ghost from_gives = { λ sign kind. kind ≡ kind_of_sign sign };
+
+    fn from(sign: Sign) -> Self {
+        match sign {
+            Sign::OpenRound => Kind::Mark(Mark::Round),
+            Sign::CloseRound => Kind::Mark(Mark::EndRound),
+            Sign::OpenCurly => Kind::Mark(Mark::Brace),
+            Sign::CloseCurly => Kind::Mark(Mark::EndBrace),
+            Sign::OpenSquare => Kind::Mark(Mark::Square),
+            Sign::CloseSquare => Kind::Mark(Mark::EndSquare),
+            Sign::Semicolon => Kind::Mark(Mark::Semicolon),
+            Sign::Comma => Kind::Mark(Mark::Comma),
+            Sign::Becomes => Kind::Equals,
+            Sign::Plus => Kind::Operator(Operator::Add),
+            Sign::Minus => Kind::Operator(Operator::Subtract),
+            Sign::Star => Kind::Operator(Operator::Multiply),
+            Sign::Slash => Kind::Operator(Operator::Divide),
+            Sign::Percent => Kind::Operator(Operator::Remainder),
+            Sign::Less => Kind::Operator(Operator::Compare(Comparison::Less)),
+            Sign::Greater => Kind::Operator(Operator::Compare(Comparison::Greater)),
+            Sign::Bang => Kind::Exclamation,
+            Sign::AtMost => Kind::Operator(Operator::Compare(Comparison::AtMost)),
+            Sign::AtLeast => Kind::Operator(Operator::Compare(Comparison::AtLeast)),
+            Sign::Equal => Kind::Operator(Operator::Compare(Comparison::Equal)),
+            Sign::NotEqual => Kind::Operator(Operator::Compare(Comparison::NotEqual)),
+        }
     }
 }
 
-fn kind_of(token: Token<'_>) -> Kind
-    ensures { result ≡ kind_of (lexeme_of token.entry) }
-{
-    match token {
-        Token::Word(word) => kind_of_word(word),
-        Token::Sign(sign) => kind_of_sign(sign),
-        Token::Name(_) => Kind::Name,
-        Token::Number(_, value) => Kind::Number(value),
+impl From<Token<'_>> for Kind {
+    ghost from_gives = { λ token kind. kind ≡ kind_of (lexeme_of token) };
+
+    fn from(token: Token<'_>) -> Self {
+        match token {
+            Token::Word(word) => word.into(),
+            Token::Sign(sign) => sign.into(),
+            Token::Name(_) => Kind::Name,
+            Token::Number(_, value) => Kind::Number(value),
+        }
     }
 }
 
-pub(crate) fn record(found: Found<'_>) -> Node
-    ensures { result ≡ record_of (piece_of found.entry) }
-{
-    Node {
-        kind: kind_of(found.token),
-        place: found.place,
-        end: found.end,
+impl From<Found<'_>> for Node {
+    ghost from_gives = { λ found node. node ≡ record_of (piece_of found) };
+
+    fn from(found: Found<'_>) -> Self {
+        Node {
+            kind: found.token.into(),
+            place: found.place,
+            end: found.end,
+        }
     }
 }

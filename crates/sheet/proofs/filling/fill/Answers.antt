@@ -37,7 +37,7 @@ loop-found-preserved c =
     let seen = ap (λ o. answered (Ok o)) (sym c.in-Some.is) ∙ c.in_ok-found.ensures.is in
     let below : c.loop-found.count < c.min-limit.result = omega (arith, c.loop-found.invariant.1, c.if-count-limit.false) in
     let room : c.loop-found.count < length c.loop-found.nodes = omega arith in
-    let more = take_more_set c.loop-found.nodes c.loop-found.count c.record.result room ∙ ap (λ n. take c.loop-found.count c.loop-found.nodes ++ (n ∷ [])) c.record.ensures in
+    let more = take_more_set c.loop-found.nodes c.loop-found.count c.into.result room ∙ ap (λ n. take c.loop-found.count c.loop-found.nodes ++ (n ∷ [])) c.into.ensures in
     (at_token c.args.text.now c.loop-found.from c.min-limit.result c.loop-found.count _ _ c.loop-found.invariant.0 (piece_of c.in-Some.found) _ more seen below, omega arith)
 
 pub returns : goal.returns
