@@ -4,7 +4,7 @@ ghost use Rattle.tokens.specs.Tokens.{tokens};
 ghost use Rattle.sheet.specs.Nodes.{filled, shown, told, meant};
 
 use crate::nodes::Node;
-use tokens::{Cause, Fault, next_token};
+use tokens::{Cause, Fault, Tokens};
 
 // How many tokens a text has, each shown by its record: at most 4,096, and at most as many as there are records.
 pub fn fill(text: &[u8], nodes: &mut [Node]) -> Result<usize, Fault>
@@ -13,8 +13,8 @@ pub fn fill(text: &[u8], nodes: &mut [Node]) -> Result<usize, Fault>
 {
     let limit = nodes.len().min(4096);
     let mut count = 0;
-    let mut from = 0;
-    while let Some(found) = next_token(text, from)? {
+    for found in Tokens::new(text) {
+        let found = found?;
         if count == limit {
             return Err(Fault {
                 cause: Cause::Count,
@@ -23,7 +23,6 @@ pub fn fill(text: &[u8], nodes: &mut [Node]) -> Result<usize, Fault>
         }
         nodes[count] = found.into();
         count += 1;
-        from = found.end;
     }
     Ok(count)
 }

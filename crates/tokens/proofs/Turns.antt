@@ -1,10 +1,14 @@
 -- One token after another gives the tokens of a text. Assumes nothing.
-use Rattle.std.proofs.Common.{◌≡◌, ℕ, zero, suc, ◌+◌, ◌-◌, ◌<◌, ◌≤◌, Bool, true, false, List, [], ◌∷◌, length, drop, Some, None, Ok, Err, Option, Result, sym, refl, ap, ◌∙◌, add-zero, zero-add, arith, length-drop}
+use Rattle.std.proofs.Common.{◌≡◌, ℕ, zero, suc, ◌+◌, ◌-◌, ◌<◌, ◌≤◌, Bool, true, false, List, [], ◌∷◌, length, drop, Some, None, Ok, Err, Option, Result, OnSome, sym, refl, ap, ap₂, ◌∙◌, subst, add-zero, zero-add, arith, length-drop}
 use Rattle.std.specs.List.{prefix_len}
 use Rattle.std.proofs.lemmas.List.{drop-drop}
 use Rattle.std.proofs.lemmas.Bool.{cond-true, cond-false}
 use Rattle.tokens.specs.declared.fault.Cause.TheVariants.{Count}
 use Rattle.tokens.specs.declared.fault.Fault.{Fault}
+use Rattle.tokens.specs.declared.lexemes.Found.{Found}
+use Rattle.tokens.specs.declared.stream.Tokens.{Tokens}
+use Rattle.tokens.specs.Stream.{Gives}
+use Rattle.tokens.specs.Answers.{piece_of}
 use Rattle.tokens.specs.Tokens.{Measured, Piece, gap, front_of, placed, some_piece, at_place, next, before, counted, from_place, number_of}
 use Rattle.tokens.proofs.Fronts.{Within, front_within}
 
@@ -72,40 +76,62 @@ added_before : (n : ℕ) (x : Piece) (r : Result (List Piece) Fault) → added n
 added_before n x (Ok xs) = let on : n + suc (length xs) ≡ n + 1 + length xs = omega arith in ap Ok on
 added_before n x (Err e) = refl
 
+-- The tokens that come from an iterator on, by what it gives and where that leaves it.
+abbrev pub coming : Tokens → ℕ → Result (List Piece) Fault
+coming s left = onward s.text.now left s.from
+
+abbrev pub came : Option (Result Found Fault) → (ℕ → Result (List Piece) Fault) → ℕ → Result (List Piece) Fault
+came None others left = Ok []
+came (Some (Err e)) others left = Err e
+came (Some (Ok f)) others zero = Err (record { cause = Count; place = f.place })
+came (Some (Ok f)) others (suc left) = before (piece_of f) (others left)
+
+pub coming_is : (s t : Tokens) (r : Option (Result Found Fault)) → Gives s r t → (left : ℕ) → coming s left ≡ came r (coming t) left
+coming_is s t None g left = step s.text.now left s.from ∙ ap (λ x. follow left x (onward s.text.now)) g.1
+coming_is s t (Some (Err e)) g left = step s.text.now left s.from ∙ ap (λ x. follow left x (onward s.text.now)) g.1
+coming_is s t (Some (Ok f)) g zero = step s.text.now zero s.from ∙ ap (λ x. follow zero x (onward s.text.now)) g.1
+coming_is s t (Some (Ok f)) g (suc left) = step s.text.now (suc left) s.from ∙ ap (λ x. follow (suc left) x (onward s.text.now)) g.1 ∙ ap₂ (λ x p. before (piece_of f) (onward x left p)) (sym g.0) (sym g.2)
+
 -- The turns of a count of a text's tokens, so many of which may come.
-module _ (text : List ℕ) (from limit count : ℕ) (goal : Result ℕ Fault) (so_far : added count (onward text (limit - count) from) ≡ goal) where
-  turn : (r : Result (Option Piece) Fault) → r ≡ next text from → added count (follow (limit - count) r (onward text)) ≡ goal
-  turn r e = ap (λ x. added count (follow (limit - count) x (onward text))) e ∙ ap (added count) (sym (step text (limit - count) from)) ∙ so_far
+module _ (s t : Tokens) (r : Option (Result Found Fault)) (gives : Gives s r t) (limit count : ℕ) (goal : Result ℕ Fault) (so_far : added count (coming s (limit - count)) ≡ goal) where
+  turn : (q : Option (Result Found Fault)) → r ≡ q → added count (came q (coming t) (limit - count)) ≡ goal
+  turn q e = ap (λ x. added count (came x (coming t) (limit - count))) (sym e) ∙ ap (added count) (sym (coming_is s t r gives (limit - count))) ∙ so_far
 
-  pub at_end : Ok None ≡ next text from → Ok count ≡ goal
-  at_end e = ap Ok (sym (add-zero count)) ∙ turn (Ok None) e
+  pub at_end : r ≡ None → Ok count ≡ goal
+  at_end e = ap Ok (sym (add-zero count)) ∙ turn None e
 
-  pub at_fault : (f : Fault) → Err f ≡ next text from → Err f ≡ goal
-  at_fault f e = turn (Err f) e
+  pub at_fault : (f : Fault) → r ≡ Some (Err f) → Err f ≡ goal
+  at_fault f e = turn (Some (Err f)) e
 
-  pub at_limit : (x : Piece) → Ok (Some x) ≡ next text from → count ≡ limit → Err (record { cause = Count; place = x.place }) ≡ goal
-  at_limit x e same =
+  pub at_limit : (f : Found) → r ≡ Some (Ok f) → count ≡ limit → Err (record { cause = Count; place = f.place }) ≡ goal
+  at_limit f e same =
       let none : limit - count ≡ 0 = omega arith in
-      ap (λ l. added count (follow l (Ok (Some x)) (onward text))) (sym none) ∙ turn (Ok (Some x)) e
+      ap (λ l. added count (came (Some (Ok f)) (coming t) l)) (sym none) ∙ turn (Some (Ok f)) e
 
-  pub at_token : (x : Piece) → Ok (Some x) ≡ next text from → count < limit → added (count + 1) (onward text (limit - (count + 1)) x.end) ≡ goal
-  at_token x e below =
+  pub at_token : (f : Found) → r ≡ Some (Ok f) → count < limit → added (count + 1) (coming t (limit - (count + 1))) ≡ goal
+  at_token f e below =
       let some : suc (limit - (count + 1)) ≡ limit - count = omega arith in
-      sym (added_before count x (onward text (limit - (count + 1)) x.end)) ∙ ap (λ l. added count (follow l (Ok (Some x)) (onward text))) some ∙ turn (Ok (Some x)) e
+      sym (added_before count (piece_of f) (coming t (limit - (count + 1)))) ∙ ap (λ l. added count (came (Some (Ok f)) (coming t) l)) some ∙ turn (Some (Ok f)) e
 
--- A token ends behind where it was looked for, and within the text.
+-- A token ends behind where it was looked for, and within the text. A fault is found before the end.
 abbrev pub Forward : List ℕ → ℕ → Result (Option Piece) Fault → Type 0
 Forward text from (Ok (Some x)) = (from < x.end) × (x.end ≤ length text)
 Forward text from (Ok None) = Unit {0}
-Forward text from (Err e) = Unit {0}
+Forward text from (Err e) = from < length text
 
-placed_forward : (text : List ℕ) (from p : ℕ) (bs : List ℕ) (m : Measured) → from ≤ p → length bs + p ≤ length text → Within bs m → Forward text from (some_piece (placed p m))
-placed_forward text from p bs (Ok x) h k w = (omega (arith, w.0), omega (arith, w.1))
-placed_forward text from p bs (Err e) h k w = tt
+placed_forward : (text : List ℕ) (from p b : ℕ) (bs : List ℕ) (m : Measured) → from ≤ p → length (b ∷ bs) + p ≤ length text → Within (b ∷ bs) m → Forward text from (some_piece (placed p m))
+placed_forward text from p b bs (Ok x) h k w = (omega (arith, w.0), omega (arith, w.1))
+placed_forward text from p b bs (Err e) h k w = omega arith
 
 at_forward : (text : List ℕ) (from p : ℕ) (bs : List ℕ) → from ≤ p → length bs ≡ length text - p → Forward text from (at_place p bs)
 at_forward text from p [] h k = tt
-at_forward text from p (b ∷ bs) h k = placed_forward text from p (b ∷ bs) (front_of (b ∷ bs)) h (omega arith) (front_within (b ∷ bs))
+at_forward text from p (b ∷ bs) h k = placed_forward text from p b bs (front_of (b ∷ bs)) h (omega arith) (front_within (b ∷ bs))
 
 pub next_forward : (text : List ℕ) (from : ℕ) → Forward text from (next text from)
 next_forward text from = at_forward text from (from + prefix_len gap (drop from text)) _ (omega arith) (length-drop _ text)
+
+-- With each item, less of the text is left.
+pub comes_on : (s t : Tokens) (r : Option (Result Found Fault)) → Gives s r t → OnSome r (length t.text.now - t.from < length s.text.now - s.from)
+comes_on s t None g = tt
+comes_on s t (Some (Ok f)) g = let on = subst (Forward s.text.now s.from) g.1 (next_forward s.text.now s.from) in omega (arith, on.0, on.1, g.2, ap length g.0)
+comes_on s t (Some (Err e)) g = let on = subst (Forward s.text.now s.from) g.1 (next_forward s.text.now s.from) in omega (arith, on, g.2, ap length g.0)

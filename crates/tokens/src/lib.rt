@@ -8,10 +8,12 @@ mod lexemes;
 mod numerals;
 mod reader;
 mod spellings;
+mod stream;
 mod whole;
 
 pub use examples::worked_examples;
 pub use fault::{Cause, Fault};
 pub use lexemes::{Found, Sign, Token, Word};
 pub use reader::next_token;
+pub use stream::Tokens;
 pub use whole::read;

@@ -72,8 +72,10 @@ fn front(bytes: &[u8]) -> Result<(Token<'_>, usize), Cause>
     }
 }
 
-pub(crate) fn token_from(text: &[u8], from: usize) -> Result<Option<Found<'_>>, Fault>
-    ensures { answered result ≡ next text.now from }
+// The first token from an offset on, its place and where it ends; none where only gaps are left.
+pub fn next_token(text: &[u8], from: usize) -> Result<Option<Found<'_>>, Fault>
+    ensures is { answered result ≡ next text.now from }
+    ensures first { First from (drop from text.now) (answered result) }
 {
     let place = from + gaps_length(rest(text, from));
     let bytes = rest(text, place);
@@ -86,12 +88,4 @@ pub(crate) fn token_from(text: &[u8], from: usize) -> Result<Option<Found<'_>>, 
         place,
         end: place + length,
     }))
-}
-
-// The first token from an offset on, its place and where it ends; none where only gaps are left.
-pub fn next_token(text: &[u8], from: usize) -> Result<Option<Found<'_>>, Fault>
-    ensures is { answered result ≡ next text.now from }
-    ensures first { First from (drop from text.now) (answered result) }
-{
-    token_from(text, from)
 }

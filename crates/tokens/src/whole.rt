@@ -4,15 +4,17 @@ ghost use Rattle.tokens.specs.Laws.{Whole};
 ghost use Rattle.tokens.specs.Tokens.{tokens, number_of};
 
 use crate::fault::{Cause, Fault};
-use crate::reader::token_from;
+use crate::stream::Tokens;
 
-fn count_tokens(text: &[u8], records: usize) -> Result<usize, Fault>
-    ensures { result ≡ number_of (tokens text.now records) }
+// How many tokens a text has: at most 4,096, and at most as many as there are records.
+pub fn read(text: &[u8], records: usize) -> Result<usize, Fault>
+    ensures is { result ≡ number_of (tokens text.now records) }
+    ensures whole { Whole text.now result }
 {
     let limit = records.min(4096);
     let mut count = 0;
-    let mut from = 0;
-    while let Some(found) = token_from(text, from)? {
+    for found in Tokens::new(text) {
+        let found = found?;
         if count == limit {
             return Err(Fault {
                 cause: Cause::Count,
@@ -20,15 +22,6 @@ fn count_tokens(text: &[u8], records: usize) -> Result<usize, Fault>
             });
         }
         count += 1;
-        from = found.end;
     }
     Ok(count)
-}
-
-// How many tokens a text has: at most 4,096, and at most as many as there are records.
-pub fn read(text: &[u8], records: usize) -> Result<usize, Fault>
-    ensures is { result ≡ number_of (tokens text.now records) }
-    ensures whole { Whole text.now result }
-{
-    count_tokens(text, records)
 }
