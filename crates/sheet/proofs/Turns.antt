@@ -16,10 +16,6 @@ abbrev pub ahead : List Node → Result (List Node) Fault → Result (List Node)
 ahead ns (Ok ms) = Ok (ns ++ ms)
 ahead ns (Err e) = Err e
 
-pub ahead_none : (r : Result (List Node) Fault) → ahead [] r ≡ r
-ahead_none (Ok ms) = refl
-ahead_none (Err e) = refl
-
 ahead_before : (ns : List Node) (x : Piece) (r : Result (List Piece) Fault) → ahead ns (filled (before x r)) ≡ ahead (ns ++ (record_of x ∷ [])) (filled r)
 ahead_before ns x (Ok xs) = ap Ok (sym (append_assoc ns (record_of x ∷ []) _))
 ahead_before ns x (Err e) = refl

@@ -1,20 +1,11 @@
 -- What the front of some bytes is, by its first byte, and how long. Assumes nothing.
-use Rattle.std.proofs.Common.{◌≡◌, ℕ, ◌+◌, ◌<◌, ◌≤◌, Bool, true, false, eqb, List, [], ◌∷◌, length, get_or, drop, Some, None, Ok, Err, Option, Result, sym, refl, ap, ◌∙◌, ap₂, arith}
+use Rattle.std.proofs.Common.{◌≡◌, ℕ, ◌+◌, ◌<◌, ◌≤◌, Bool, true, false, List, [], ◌∷◌, length, get_or, Some, None, Ok, Err, Option, Result, sym, refl, ap, arith}
 use Rattle.std.specs.List.{prefix_len}
 use Rattle.std.proofs.lemmas.List.Sums.{prefix_len-le-length}
-use Rattle.std.proofs.lemmas.List.{nil_from_length}
-use Rattle.std.proofs.lemmas.Bool.{cond-true, or_left, eqb-true, true≢false}
+use Rattle.std.proofs.lemmas.Bool.{cond-true, or_left}
 use Rattle.tokens.specs.declared.fault.Cause.{Cause}
 use Rattle.tokens.specs.declared.lexemes.Sign.{Sign}
-use Rattle.tokens.specs.Tokens.{Lexeme, Measured, letter, digit, inner, run, sized, numbered, single, double, short, long, signed, begun, front_of, gap, at_place, some_piece, placed, next}
-
-pub front_digit : (bs : List ℕ) → 0 < length bs → letter (get_or bs 0 0) ≡ false → digit (get_or bs 0 0) ≡ true → front_of bs ≡ sized (prefix_len digit bs) (numbered (run digit bs))
-front_digit [] h e g = absurd (omega arith)
-front_digit (b ∷ bs) h e g = ap₂ (λ x y. begun x y b bs) e g
-
-pub front_sign : (bs : List ℕ) → 0 < length bs → letter (get_or bs 0 0) ≡ false → digit (get_or bs 0 0) ≡ false → front_of bs ≡ signed (get_or bs 0 0) (drop 1 bs)
-front_sign [] h e g = absurd (omega arith)
-front_sign (b ∷ bs) h e g = ap₂ (λ x y. begun x y b bs) e g
+use Rattle.tokens.specs.Tokens.{Lexeme, Measured, letter, digit, inner, sized, single, double, short, long, signed, begun, front_of}
 
 -- A sign of one byte, where no second byte makes it one of two.
 pub signed_none : (a : ℕ) (bs : List ℕ) → length bs < 1 → signed a bs ≡ short (single a)
@@ -24,21 +15,6 @@ signed_none a (b ∷ bs) h = absurd (omega arith)
 pub signed_short : (a : ℕ) (bs : List ℕ) → 1 ≤ length bs → None ≡ double a (get_or bs 0 0) → signed a bs ≡ short (single a)
 signed_short a [] h e = absurd (omega arith)
 signed_short a (b ∷ bs) h e = ap (λ o. long o (short (single a))) (sym e)
-
-at_some : (p : ℕ) (bs : List ℕ) → eqb (length bs) 0 ≡ false → at_place p bs ≡ some_piece (placed p (front_of bs))
-at_some p [] h = absurd (true≢false h)
-at_some p (b ∷ bs) h = refl
-
--- How the reader comes to the next token: past n gaps of what stands from an offset on.
-module _ (text : List ℕ) (from n : ℕ) (bs left : List ℕ) (gaps : n ≡ prefix_len gap left) (there : left ≡ drop from text) (behind : bs ≡ drop (from + n) text) where
-  next_is : at_place (from + n) bs ≡ next text from
-  next_is = ap (at_place (from + n)) behind ∙ ap (λ k. at_place (from + k) (drop (from + k) text)) (gaps ∙ ap (prefix_len gap) there)
-
-  pub next_none : true ≡ eqb (length bs) 0 → Ok None ≡ next text from
-  next_none e = ap (at_place (from + n)) (sym (nil_from_length bs (eqb-true (length bs) 0 (sym e)))) ∙ next_is
-
-  pub next_some : (m : Measured) → false ≡ eqb (length bs) 0 → m ≡ front_of bs → some_piece (placed (from + n) m) ≡ next text from
-  next_some m e is = ap (λ x. some_piece (placed (from + n) x)) is ∙ sym (at_some (from + n) bs (sym e)) ∙ next_is
 
 -- A token is not empty and ends within the bytes.
 abbrev pub Within : List ℕ → Measured → Type 0

@@ -1,5 +1,5 @@
 -- One token after another gives the tokens of a text. Assumes nothing.
-use Rattle.std.proofs.Common.{◌≡◌, ℕ, zero, suc, ◌+◌, ◌-◌, ◌<◌, ◌≤◌, Bool, true, false, List, [], ◌∷◌, length, drop, Some, None, Ok, Err, Option, Result, OnSome, sym, refl, ap, ap₂, ◌∙◌, subst, add-zero, zero-add, arith, length-drop}
+use Rattle.std.proofs.Common.{◌≡◌, ℕ, zero, suc, ◌+◌, ◌-◌, ◌<◌, ◌≤◌, Bool, true, false, List, [], ◌∷◌, length, drop, Some, None, Ok, Err, Option, Result, OnSome, sym, refl, ap, ap₂, ◌∙◌, subst, add-zero, arith, length-drop}
 use Rattle.std.specs.List.{prefix_len}
 use Rattle.std.proofs.lemmas.List.{drop-drop}
 use Rattle.std.proofs.lemmas.Bool.{cond-true, cond-false}
@@ -9,7 +9,7 @@ use Rattle.tokens.specs.declared.lexemes.Found.{Found}
 use Rattle.tokens.specs.declared.stream.Tokens.{Tokens}
 use Rattle.tokens.specs.Stream.{Gives}
 use Rattle.tokens.specs.Answers.{piece_of}
-use Rattle.tokens.specs.Tokens.{Measured, Piece, gap, front_of, placed, some_piece, at_place, next, before, counted, from_place, number_of}
+use Rattle.tokens.specs.Tokens.{Measured, Piece, gap, front_of, placed, some_piece, at_place, next, before, counted, from_place}
 use Rattle.tokens.proofs.Fronts.{Within, front_within}
 
 -- What stands inside a token is passed over.
@@ -67,10 +67,6 @@ module _ (text : List ℕ) where
 abbrev pub added : ℕ → Result (List Piece) Fault → Result ℕ Fault
 added n (Ok xs) = Ok (n + length xs)
 added n (Err e) = Err e
-
-pub added_none : (r : Result (List Piece) Fault) → added 0 r ≡ number_of r
-added_none (Ok xs) = ap Ok (zero-add (length xs))
-added_none (Err e) = refl
 
 added_before : (n : ℕ) (x : Piece) (r : Result (List Piece) Fault) → added n (before x r) ≡ added (n + 1) r
 added_before n x (Ok xs) = let on : n + suc (length xs) ≡ n + 1 + length xs = omega arith in ap Ok on

@@ -1,7 +1,7 @@
 ghost use Rattle.std.specs.Prelude.{◌≡◌, min};
 ghost use Rattle.tokens.specs.Tokens.{value, needless};
 
-// What digits are worth. All past 16,383 are refused alike, so that the sum may stop at the largest u32.
+// What digits are worth, at most the largest u32: all past 16,383 are refused alike.
 pub(crate) fn value_of(digits: &[u8]) -> u32
     ensures { result ≡ min (value digits.now) 4294967295 }
 {
