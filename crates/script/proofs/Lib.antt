@@ -1,3 +1,4 @@
 pub mod Rows
+pub mod Fills
 pub mod Folds
 pub mod Ends

@@ -1,7 +1,6 @@
--- Cells on a line, and parts of a store. Assumes nothing.
-use Rattle.std.proofs.Common.{◌≡◌, ℕ, suc, ◌+◌, ◌-◌, ◌<◌, ◌≤◌, min, Bool, ltb, List, [], ◌∷◌, ◌++◌, length, get_or, take, drop, sym, ap, ◌∙◌, ⊎_elim, append_assoc, append-nil, arith}
-use native.Mathlib.Nat.{sub-zero}
-use Rattle.std.proofs.lemmas.List.{drop_more, drop_all, take_rest, take_all, length-drop}
+-- Cells on a line. Assumes nothing.
+use Rattle.std.proofs.Common.{◌≡◌, ℕ, suc, ◌+◌, ◌-◌, ◌<◌, ◌≤◌, Bool, ltb, List, [], ◌∷◌, ◌++◌, length, get_or, drop, sym, ap, ◌∙◌, ⊎_elim, append_assoc, append-nil, arith}
+use Rattle.std.proofs.lemmas.List.{drop_more, drop_all, length-drop}
 use Rattle.std.proofs.lemmas.Bool.{cases_lt, lt-ltb, le-ltb}
 use Rattle.script.specs.Texts.{separator, separated, row}
 
@@ -26,14 +25,3 @@ row_more w cs i x more b s t u v h e es et em eu ev inv =
 
 pub row_all : {C : Type 0} (w : C → List ℕ) (cs : List C) (i : ℕ) (b : List ℕ) → length cs ≤ i → b ++ row w (drop i cs) ≡ row w cs → b ≡ row w cs
 row_all w cs i b h inv = sym (append-nil b) ∙ ap (λ z. b ++ row w z) (sym (drop_all i cs h)) ∙ inv
-
-take_min : {C : Type 0} (k : ℕ) (u : List C) → take (min k (length u)) u ≡ take k u
-take_min k u = ⊎_elim (λ h. ap (λ n. take n u) (omega arith)) (λ h. ap (λ n. take n u) (omega arith) ∙ take_all (length u) u (omega arith) ∙ sym (take_all k u h)) (cases_lt k (length u))
-
-drop_min : {C : Type 0} (k : ℕ) (u : List C) → drop (min k (length u)) u ≡ drop k u
-drop_min k u = ⊎_elim (λ h. ap (λ n. drop n u) (omega arith)) (λ h. ap (λ n. drop n u) (omega arith) ∙ drop_all (length u) u (omega arith) ∙ sym (drop_all k u h)) (cases_lt k (length u))
-
--- a part as far as there is so much
-pub part_is : {C : Type 0} (xs v : List C) (f k a b : ℕ) → a ≡ min f (length xs) → v ≡ take (length xs - a) (drop a xs) → b ≡ min k (length v) → take (b - 0) v ≡ take k (drop f xs)
-part_is xs v f k a b ea ev eb =
-    ap (λ n. take n v) (sub-zero b ∙ eb) ∙ take_min k v ∙ ap (take k) (ev ∙ take_rest xs a ∙ ap (λ n. drop n xs) ea ∙ drop_min f xs)

@@ -31,8 +31,11 @@ counters_text active budget spent = codes "active " ++ (decimal active ++ (codes
 abbrev pub run_line : Ending → Registers → ℕ → List ℕ
 run_line e r spent = ending_text e ++ (codes " | " ++ (pointers_text r ++ (codes " " ++ (counters_text r.active r.budget spent ++ (10 ∷ [])))))
 
+abbrev pub report_text : Report → List ℕ
+report_text p = codes "report: " ++ (decimal (p.halted + p.stopped) ++ (codes " runs, " ++ (decimal p.halted ++ (codes " halted, " ++ (decimal p.stopped ++ (codes " stopped, " ++ (decimal p.units ++ codes " units spent")))))))
+
 abbrev pub report_line : Report → List ℕ
-report_line p = codes "report: " ++ (decimal (p.halted + p.stopped) ++ (codes " runs, " ++ (decimal p.halted ++ (codes " halted, " ++ (decimal p.stopped ++ (codes " stopped, " ++ (decimal p.units ++ (codes " units spent" ++ (10 ∷ [])))))))))
+report_line p = report_text p ++ (10 ∷ [])
 
 -- A space follows a cell, a line feed the last.
 abbrev pub separator : {C : Type 0} → List C → ℕ

@@ -1,11 +1,13 @@
-ghost use Rattle.std.specs.Prelude.{◌≡◌, ◌+◌, min};
+ghost use Rattle.std.specs.Prelude.{◌≡◌, ◌+◌, min, Some};
 ghost use Rattle.machine.specs.declared.state.Ending.TheVariants.{Halted, Stopped};
-ghost use Rattle.script.specs.Reports.{none_yet, noted};
+ghost use Rattle.script.specs.Reports.{noted};
+ghost use Rattle.script.specs.Texts.{report_text};
 
 use machine::Ending;
+use std::fmt;
 
 // What the runs of a script came to.
-#[derive(Clone, Copy, Drop)]
+#[derive(Clone, Copy, Debug, Default, PartialEq, Eq, Drop)]
 pub(crate) struct Report {
     pub(crate) halted: u32,
     pub(crate) stopped: u32,
@@ -13,16 +15,6 @@ pub(crate) struct Report {
 }
 
 impl Report {
-    pub(crate) fn new() -> Report
-        ensures { result ≡ none_yet }
-    {
-        Report {
-            halted: 0,
-            stopped: 0,
-            units: 0,
-        }
-    }
-
     // Counts a run, and no count passes the end of its type.
     pub(crate) fn note(&mut self, ending: Ending, spent: u32)
         ensures is { self.new ≡ noted self.old ending spent }
@@ -41,5 +33,22 @@ impl Report {
         ensures { result ≡ self.now.halted + self.now.stopped }
     {
         self.halted as u64 + self.stopped as u64
+    }
+}
+
+impl fmt::Display for Report {
+    ghost output = { λ p. Some (report_text p) };
+
+    fn fmt<W: fmt::Write>(&self, f: &mut fmt::Formatter<W>) -> fmt::Result {
+        let runs = self.runs();
+        let Report {
+            halted,
+            stopped,
+            units,
+        } = self;
+        write!(
+            f,
+            "report: {runs} runs, {halted} halted, {stopped} stopped, {units} units spent"
+        )
     }
 }

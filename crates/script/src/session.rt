@@ -1,19 +1,19 @@
 // What the lines of a script have come to so far, and what each command makes of it.
 ghost use Rattle.std.specs.Prelude.{◌≡◌, true, [], take, drop, replicate, IfOk, slice_set};
 ghost use Rattle.commands.specs.declared.Command.TheVariants.{Run, Show};
-ghost use Rattle.machine.specs.Runs.{run};
 ghost use Rattle.script.specs.Sessions.{state, fresh, context, with_listing, with_word, executed, reported, Done};
 
 use crate::report::Report;
 use crate::texts;
 use cells::Notation;
 use commands::{Command, Context};
-use machine::{Ending, Registers, run};
+use machine::{Registers, run};
 use std::alloc::{AllocError, Global};
 
 #[derive(Drop)]
 pub(crate) struct Session<C> {
     pub(crate) store: Vec<C>,
+    // The machine takes the words of a listing and their places as two slices, so they are kept as two.
     pub(crate) code: Vec<u32>,
     pub(crate) places: Vec<u32>,
     pub(crate) registers: Option<Registers>,
@@ -31,7 +31,7 @@ pub(crate) fn empty_session<C>(heap: Global) -> Session<C>
         places: Vec::new(heap),
         registers: None,
         listing: false,
-        report: Report::new(),
+        report: Report::default(),
         output: String::new(heap),
     }
 }
@@ -51,9 +51,7 @@ fn empty_store<N: Notation>(heap: Global, cells: usize) -> Result<Vec<N::Cell>, 
     ensures { IfOk result (λ v. v.items ≡ replicate cells (N.Reckoning.meaning.whole 0)) }
 {
     let mut store = Vec::new(heap);
-    for _i in 0..cells {
-        store.push(N::whole(0))?;
-    }
+    store.resize_with(cells, || N::whole(0))?;
     Ok(store)
 }
 
@@ -61,15 +59,15 @@ fn empty_store<N: Notation>(heap: Global, cells: usize) -> Result<Vec<N::Cell>, 
 fn part<C>(cells: &[C], first: usize, count: usize) -> &[C]
     ensures { result.now ≡ take count (drop first cells.now) }
 {
-    let rest = &cells[first.min(cells.len())..];
-    &rest[0..count.min(rest.len())]
+    let rest = cells.get(first..).unwrap_or(&[]);
+    rest.get(..count).unwrap_or(rest)
 }
 
 fn put<C: Copy>(store: &mut Vec<C>, at: usize, value: C)
     ensures { store.new.items ≡ slice_set store.old.items at value }
 {
-    if at < store.len() {
-        store[at] = value;
+    if let Some(cell) = store.get_mut(at) {
+        *cell = value;
     }
 }
 
@@ -89,18 +87,6 @@ fn add_word<C>(session: &mut Session<C>, word: u32, place: u32) -> Result<(), Al
     Ok(())
 }
 
-// Runs from these registers, and leaves registers and store as they then are.
-fn run_on<N: Notation>(
-    code: &[u32],
-    places: &[u32],
-    registers: &mut Registers,
-    store: &mut Vec<N::Cell>,
-) -> Ending
-    ensures { (result, (registers.new, store.new.items)) ≡ run N.Reckoning.meaning code.now places.now (registers.old, store.old.items) }
-{
-    run::<N>(code, places, registers, store)
-}
-
 fn run_from<N: Notation>(
     heap: Global,
     session: &mut Session<N::Cell>,
@@ -109,7 +95,7 @@ fn run_from<N: Notation>(
     ensures { Done result (state session.old) (state session.new) (executed N.Reckoning.meaning N.Notation.writes (state session.old) (Run before)) }
 {
     let mut registers = before;
-    let ending = run_on::<N>(
+    let ending = run::<N>(
         &session.code,
         &session.places,
         &mut registers,

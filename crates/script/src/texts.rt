@@ -1,6 +1,6 @@
 // The lines that a script prints.
 ghost use Rattle.std.specs.Prelude.{◌≡◌, IfOk, string_bytes};
-ghost use Rattle.script.specs.Texts.{layer_name, ending_text, named_text, pointers_text, counters_text, run_line, report_line, row, separated};
+ghost use Rattle.script.specs.Texts.{layer_name, ending_text, pointers_text, run_line, report_line, row, separated};
 
 use crate::report::Report;
 use cells::Notation;
@@ -30,26 +30,11 @@ fn ending_text(heap: Global, ending: Ending) -> Result<String, AllocError>
     }
 }
 
-fn named_text(heap: Global, name: &str, value: i32) -> Result<String, AllocError>
-    ensures { IfOk result (λ s. string_bytes s ≡ named_text name.now value) }
-{
-    format!(in heap; "{name} {value}")
-}
-
 fn pointers_text(heap: Global, registers: Registers) -> Result<String, AllocError>
     ensures { IfOk result (λ s. string_bytes s ≡ pointers_text registers) }
 {
-    let pc = named_text(heap, "pc", registers.pc)?;
-    let sp = named_text(heap, "sp", registers.sp)?;
-    let fp = named_text(heap, "fp", registers.fp)?;
-    let ep = named_text(heap, "ep", registers.ep)?;
-    format!(in heap; "{pc} {sp} {fp} {ep}")
-}
-
-fn counters_text(heap: Global, active: u32, budget: u32, spent: u32) -> Result<String, AllocError>
-    ensures { IfOk result (λ s. string_bytes s ≡ counters_text active budget spent) }
-{
-    format!(in heap; "active {active} budget {budget} spent {spent}")
+    let Registers { pc, sp, fp, ep, .. } = registers;
+    format!(in heap; "pc {pc} sp {sp} fp {fp} ep {ep}")
 }
 
 pub(crate) fn run_line(
@@ -62,22 +47,14 @@ pub(crate) fn run_line(
 {
     let ending = ending_text(heap, ending)?;
     let pointers = pointers_text(heap, registers)?;
-    let counters = counters_text(heap, registers.active, registers.budget, spent)?;
-    format!(in heap; "{ending} | {pointers} {counters}\n")
+    let Registers { active, budget, .. } = registers;
+    format!(in heap; "{ending} | {pointers} active {active} budget {budget} spent {spent}\n")
 }
 
 pub(crate) fn report_line(heap: Global, report: Report) -> Result<String, AllocError>
     ensures { IfOk result (λ s. string_bytes s ≡ report_line report) }
 {
-    let runs = report.runs();
-    let Report {
-        halted,
-        stopped,
-        units,
-    } = report;
-    format!(in heap;
-        "report: {runs} runs, {halted} halted, {stopped} stopped, {units} units spent\n"
-    )
+    format!(in heap; "{report}\n")
 }
 
 // What follows a cell: a space where more cells are to come.
