@@ -1,16 +1,15 @@
 -- The fold over the lines of a script, a line at a time. Assumes nothing.
-use Rattle.std.proofs.Common.{◌≡◌, ℕ, ◌+◌, Bool, true, false, cond, ◌⊎◌, List, [], ◌∷◌, ◌++◌, Some, None, Ok, Err, Option, Result, sym, refl, ap, ◌∙◌, subst, inl, inr, append_assoc, append-nil}
+use Rattle.std.proofs.Common.{◌≡◌, ℕ, ◌+◌, Bool, true, false, cond, ◌⊎◌, List, [], ◌∷◌, ◌++◌, Some, None, Ok, Err, Option, Result, MatchResult, IsErrAnd, sym, refl, ap, ◌∙◌, subst, inl, inr, append_assoc, append-nil}
 use Rattle.reckoning.specs.Meaning.{Meaning}
 use Rattle.wording.specs.Pieces.{words}
 use Rattle.commands.specs.declared.Cause.{Cause}
 use Rattle.commands.specs.declared.Cause.TheVariants.{NoEnd, NoMemory}
-use Rattle.commands.specs.declared.Chosen.{Chosen}
 use Rattle.commands.specs.declared.Command.{Command}
 use Rattle.commands.specs.declared.Command.TheVariants.{Nothing, Store, Cell, Code, Word, End, Registers, Run, Show}
-use Rattle.commands.specs.Commands.{reckoning, command}
+use Rattle.commands.specs.Commands.{command}
 use Rattle.script.specs.declared.fault.Fault.{Fault}
 use Rattle.script.specs.Sessions.{State, context, executed, reported}
-use Rattle.script.specs.Scripts.{fault, ended, told, carried, named, begun, Begins, Meets, Stepped}
+use Rattle.script.specs.Scripts.{Fails, fault, fails, ended, told, carried, Begins, Comes, Stepped}
 
 all_of : (xs : List ℕ) → Begins xs xs
 all_of xs = ([], sym (append-nil xs))
@@ -24,26 +23,17 @@ begins_at xs ys zs e b = (b.0, b.1 ∙ ap (λ l. l ++ b.0) (sym e))
 ended_begins : {C : Type 0} (n : ℕ) (s : State C) → Begins s.output (ended n s).0
 ended_begins n s = by s.listing
   where
-    by : (b : Bool) → Begins s.output (cond {A = List ℕ × Option Fault} b (s.output, Some (fault n NoEnd)) ((reported s).output, None)).0
+    by : (b : Bool) → Begins s.output (cond {A = List ℕ × Option Fails} b (s.output, Some (fault n NoEnd)) ((reported s).output, None)).0
     by true = all_of s.output
     by false = (_, refl)
 
-pub told_end : {C : Type 0} (n : ℕ) (s : State C) → s.listing ≡ true → (s.output, Some (fault n NoEnd)) ≡ ended n s
-told_end n s e = sym (ap (λ b. cond b (s.output, Some (fault n NoEnd)) ((reported s).output, None)) e)
+comes_at : (out : List ℕ) (f : Option Fails) (d e : List ℕ × Option Fails) → d ≡ e → Comes out f d → Comes out f e
+comes_at out f d e p h = subst (λ x. Comes out f x) p h
 
-pub told_report : {C : Type 0} (n : ℕ) (s : State C) → s.listing ≡ false → ((reported s).output, None) ≡ ended n s
-told_report n s e = sym (ap (λ b. cond b (s.output, Some (fault n NoEnd)) ((reported s).output, None)) e)
-
--- at a want of memory nothing was printed past a beginning
-pub short_end : {C : Type 0} (n : ℕ) (out : List ℕ) (s : State C) → out ≡ s.output → Meets out (Some (fault n NoMemory)) (ended n s)
-short_end n out s e = inr ((n, refl), begins_at out s.output (ended n s).0 e (ended_begins n s))
-
-pub meets_at : (out : List ℕ) (f : Option Fault) (d e : List ℕ × Option Fault) → d ≡ e → Meets out f d → Meets out f e
-meets_at out f d e p h = subst (λ x. Meets out f x) p h
-
--- the line of a fault under another name
-pub meets_line : (out : List ℕ) (k n : ℕ) (cause : Cause) (d : List ℕ × Option Fault) → k ≡ n → Meets out (Some (fault n cause)) d → Meets out (Some (fault k cause)) d
-meets_line out k n cause d same h = subst (λ l. Meets out (Some (fault l cause)) d) (sym same) h
+-- the fault that a cause is made into
+raised : {X : Type 0} (post : Cause → Fault → Type 0) (k : ℕ) (r : Result X Cause) (m : Result X Fault) (y : Fault) → MatchResult r (λ x. m ≡ Ok x) (λ e. IsErrAnd m (post e)) → m ≡ Err y → ((e : Cause) → post e y → fails y ≡ fault k e) → (e : Cause) × (r ≡ Err e) × (fails y ≡ fault k e)
+raised post k (Ok x) m y h q g = absurd (cc)
+raised post k (Err e) m y h q g = (e, refl, g e (subst (λ z. IsErrAnd z (post e)) q h))
 
 module _ {C : Type 0} (m : Meaning C) (reads : List ℕ → Option C) (writes : C → List ℕ) where
   grows : (s : State C) (c : Command C) → Begins s.output (executed m writes s c).output
@@ -57,7 +47,7 @@ module _ {C : Type 0} (m : Meaning C) (reads : List ℕ → Option C) (writes : 
   grows s (Run r) = (_, refl)
   grows s (Show first count) = (_, refl)
 
-  told_begins : (others : State C → List ℕ × Option Fault) → ((t : State C) → Begins t.output (others t).0) → (n : ℕ) (s : State C) (d : Result (Command C) Cause) → Begins s.output (told m reads writes others n s d).0
+  told_begins : (others : State C → List ℕ × Option Fails) → ((t : State C) → Begins t.output (others t).0) → (n : ℕ) (s : State C) (d : Result (Command C) Cause) → Begins s.output (told m reads writes others n s d).0
   told_begins others h n s (Ok c) = begins_trans s.output (executed m writes s c).output _ (grows s c) (h (executed m writes s c))
   told_begins others h n s (Err e) = all_of s.output
 
@@ -65,22 +55,17 @@ module _ {C : Type 0} (m : Meaning C) (reads : List ℕ → Option C) (writes : 
   carried_begins n [] s = ended_begins n s
   carried_begins n (l ∷ ls) s = told_begins (carried m reads writes (n + 1) ls) (carried_begins (n + 1) ls) n s (command reads (context s) (words l))
 
-  pub step_on : (n : ℕ) (ls : List (List ℕ)) (line : List ℕ) (after : List (List ℕ)) (s t : State C) (u : Unit {0}) → ls ≡ line ∷ after → Stepped (executed m writes) (Ok u) s t (command reads (context s) (words line)) → carried m reads writes (n + 1) after t ≡ carried m reads writes n ls s
-  step_on n ls line after s t u h p =
-      ap (carried m reads writes (n + 1) after) p.2 ∙ sym (ap (λ k. carried m reads writes n k s) h ∙ ap (told m reads writes (carried m reads writes (n + 1) after) n s) p.1)
+  stops : (n : ℕ) (line : List ℕ) (after : List (List ℕ)) (s : State C) (e : Cause) (out : List ℕ) → (command reads (context s) (words line) ≡ Err e) ⊎ (e ≡ NoMemory) → out ≡ s.output → Comes out (Some (fault (n + 1) e)) (carried m reads writes n (line ∷ after) s)
+  stops n line after s e out (inl x) o = inl (ap (λ l. (l, Some (fault (n + 1) e))) o ∙ sym (ap (told m reads writes (carried m reads writes (n + 1) after) n s) x))
+  stops n line after s e out (inr x) o = inr ((n + 1, ap (λ k. Some (fault (n + 1) k)) x), begins_at out s.output _ o (carried_begins n (line ∷ after) s))
 
-  fails : (n : ℕ) (line : List ℕ) (after : List (List ℕ)) (s : State C) (e : Cause) (out : List ℕ) → (command reads (context s) (words line) ≡ Err e) ⊎ (e ≡ NoMemory) → out ≡ s.output → Meets out (Some (fault (n + 1) e)) (carried m reads writes n (line ∷ after) s)
-  fails n line after s e out (inl x) o = inl (ap (λ l. (l, Some (fault (n + 1) e))) o ∙ sym (ap (told m reads writes (carried m reads writes (n + 1) after) n s) x))
-  fails n line after s e out (inr x) o = inr ((n + 1, ap (λ k. Some (fault (n + 1) k)) x), begins_at out s.output _ o (carried_begins n (line ∷ after) s))
+  step_fails : (n : ℕ) (ls : List (List ℕ)) (line : List ℕ) (after : List (List ℕ)) (s t : State C) (e : Cause) → ls ≡ line ∷ after → Stepped (executed m writes) (Err e) s t (command reads (context s) (words line)) → Comes t.output (Some (fault (n + 1) e)) (carried m reads writes n ls s)
+  step_fails n ls line after s t e h p = subst (λ k. Comes t.output (Some (fault (n + 1) e)) (carried m reads writes n k s)) (sym h) (stops n line after s e t.output p.0 p.1)
 
-  pub step_fails : (n : ℕ) (ls : List (List ℕ)) (line : List ℕ) (after : List (List ℕ)) (s t : State C) (e : Cause) → ls ≡ line ∷ after → Stepped (executed m writes) (Err e) s t (command reads (context s) (words line)) → Meets t.output (Some (fault (n + 1) e)) (carried m reads writes n ls s)
-  step_fails n ls line after s t e h p = subst (λ k. Meets t.output (Some (fault (n + 1) e)) (carried m reads writes n k s)) (sym h) (fails n line after s e t.output p.0 p.1)
-
-pub named_on : (n : ℕ) (ls : List (List ℕ)) (line : List ℕ) (after : List (List ℕ)) → ls ≡ line ∷ after → reckoning (words line) ≡ Ok None → begun (n + 1) after ≡ begun n ls
-named_on n ls line after h e = sym (ap (begun n) h ∙ ap (named (begun (n + 1) after) n after) e)
-
-pub named_here : (n : ℕ) (ls : List (List ℕ)) (line : List ℕ) (after : List (List ℕ)) (r : Chosen) → ls ≡ line ∷ after → reckoning (words line) ≡ Ok (Some r) → Ok (r, n + 1, after) ≡ begun n ls
-named_here n ls line after r h e = sym (ap (begun n) h ∙ ap (named (begun (n + 1) after) n after) e)
-
-pub named_wrong : (n : ℕ) (ls : List (List ℕ)) (line : List ℕ) (after : List (List ℕ)) (x : Cause) → ls ≡ line ∷ after → reckoning (words line) ≡ Err x → Err (fault (n + 1) x) ≡ begun n ls
-named_wrong n ls line after x h e = sym (ap (begun n) h ∙ ap (named (begun (n + 1) after) n after) e)
+  -- the same where the cause is made into the fault of a line
+  pub step_raises : (n i : ℕ) (ls : List (List ℕ)) (line : List ℕ) (after : List (List ℕ)) (s t : State C) (post : Cause → Fault → Type 0) (r : Result (Unit {0}) Cause) (a : Result (Unit {0}) Fault) (y : Fault) (d : List ℕ × Option Fails) → ls ≡ line ∷ after → i ≡ n → Stepped (executed m writes) r s t (command reads (context s) (words line)) → MatchResult r (λ x. a ≡ Ok x) (λ e. IsErrAnd a (post e)) → a ≡ Err y → ((e : Cause) → post e y → fails y ≡ fault (i + 1) e) → carried m reads writes n ls s ≡ d → Comes t.output (Some (fails y)) d
+  step_raises n i ls line after s t post r a y d h same p cases was made inv =
+      let q = raised post (i + 1) r a y cases was made in
+      subst (λ x. Comes t.output (Some x) d) (sym (q.2 ∙ ap (λ k. fault (k + 1) q.0) same))
+      (comes_at t.output (Some (fault (n + 1) q.0)) (carried m reads writes n ls s) d inv
+      (step_fails n ls line after s t q.0 h (subst (λ z. Stepped (executed m writes) z s t (command reads (context s) (words line))) q.1 p)))

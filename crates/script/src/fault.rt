@@ -1,3 +1,5 @@
+ghost use Rattle.std.specs.Prelude.{◌≤◌};
+
 use commands::Cause;
 use std::fmt;
 
@@ -6,12 +8,12 @@ use std::fmt;
 pub struct Fault {
     pub line: usize,
     pub cause: Cause,
+    pub ghost from_one: { 1 ≤ line },
 }
 
 impl fmt::Display for Fault {
     fn fmt<W: fmt::Write>(&self, f: &mut fmt::Formatter<W>) -> fmt::Result {
-        let line = self.line;
-        let cause = self.cause;
+        let Fault { line, cause } = self;
         write!(f, "line {line}: {cause}")
     }
 }

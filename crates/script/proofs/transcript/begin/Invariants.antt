@@ -1,10 +1,13 @@
-use Rattle.std.proofs.Common.{◌≡◌, ◌+◌, ◌≤◌, length}
-use Rattle.wording.specs.Pieces.{lines}
-use Rattle.script.specs.Scripts.{begun}
+use Rattle.std.proofs.Common.{◌≡◌, ◌+◌, ◌^◌, ◌<◌, max, length}
+use Rattle.std.specs.Iterator.Adapters.{enumerate_count}
+use Rattle.script.specs.Scripts.{begun, left}
 use Rattle.script.proofs.transcript.begin.Given as goal
 
-abbrev pub invariant-loop-line : goal.invariant-loop-line
-invariant-loop-line l = (l.done + length l.rest ≤ length l.text) × (begun l.done (lines l.rest) ≡ begun 0 (lines l.text))
+abbrev pub invariant-loop-i : goal.invariant-loop-i
+invariant-loop-i l =
+    (max (enumerate_count l.lines) 1 ≡ l.at + 1)
+    × (enumerate_count l.lines + length (left l.lines) < 2 ^ 64)
+    × (begun (enumerate_count l.lines) (left l.lines) ≡ begun 0 (left l.initial.lines))
 
-abbrev pub decreases-loop-line : goal.decreases-loop-line
-decreases-loop-line l = length l.rest
+abbrev pub decreases-loop-i : goal.decreases-loop-i
+decreases-loop-i l = length (left l.lines)

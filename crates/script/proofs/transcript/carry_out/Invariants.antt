@@ -1,11 +1,11 @@
-use Rattle.std.proofs.Common.{◌≡◌, ◌+◌, ◌^◌, ◌<◌, ◌≤◌, length}
-use Rattle.wording.specs.Pieces.{lines}
+use Rattle.std.proofs.Common.{◌≡◌, ◌+◌}
 use Rattle.script.specs.Sessions.{state}
-use Rattle.script.specs.Scripts.{Numbered, carried}
+use Rattle.script.specs.Scripts.{Numbered, carried, left}
 use Rattle.script.proofs.transcript.carry_out.Given as goal
 
-abbrev pub invariant-loop-line : goal.invariant-loop-line
-invariant-loop-line g l = Numbered l.before l.text → (l.done + length l.rest < 2 ^ 64) × (1 ≤ l.done) × (carried g.N.Reckoning.meaning g.N.Notation.reads g.N.Notation.writes l.done (lines l.rest) (state l.session) ≡ carried g.N.Reckoning.meaning g.N.Notation.reads g.N.Notation.writes l.before (lines l.text) (state l.initial.session))
-
-abbrev pub decreases-loop-line : goal.decreases-loop-line
-decreases-loop-line g l = length l.rest
+abbrev pub invariant-loop-i : goal.invariant-loop-i
+invariant-loop-i g l =
+    (goal.iterator-loop-i g).can_next l.i-iterator
+    × (goal.iterator-loop-i g).is_finite l.i-iterator
+    × Numbered l.at l.i-iterator
+    × (carried g.N.Reckoning.meaning g.N.Notation.reads g.N.Notation.writes (l.at + 1) (left l.i-iterator) (state l.session) ≡ carried g.N.Reckoning.meaning g.N.Notation.reads g.N.Notation.writes (l.fn.read + 1) (left l.fn.lines) (state l.initial.session))
