@@ -18,14 +18,12 @@ fn printed(heap: Global, script: &str) -> Result<String, fmt::Error> {
 
 // The first line, from 1, in which two texts differ that are not the same.
 fn first_difference(left: &str, right: &str) -> usize {
-    let mut line: usize = 1;
-    for (a, b) in left.lines().zip(right.lines()) {
-        if a != b {
-            return line;
-        }
-        line = line.saturating_add(1);
-    }
-    line
+    let alike = left
+        .lines()
+        .zip(right.lines())
+        .take_while(|(a, b)| a == b)
+        .count();
+    alike.saturating_add(1)
 }
 
 // Whether a script prints what is expected. Where it does not, the first line that differs is said.
@@ -43,14 +41,12 @@ fn is_as_expected(rt: &HostRuntime, stem: &str) -> anyhow::Result<bool> {
 
 fn compare_all(rt: &HostRuntime) -> anyhow::Result<()> {
     let list = fs::read_to_string(rt, "list.txt")?;
-    let mut cases: u32 = 0;
-    let mut as_expected: u32 = 0;
-    for stem in list.lines() {
-        cases = cases.saturating_add(1);
-        if is_as_expected(rt, stem)? {
-            as_expected = as_expected.saturating_add(1);
-        }
-    }
+    let answers: Vec<bool> = list
+        .lines()
+        .map(|stem| is_as_expected(rt, stem))
+        .try_collect(rt.alloc())?;
+    let cases = answers.len();
+    let as_expected = answers.iter().filter(|same| **same).count();
     println!(rt; "{cases} cases, {as_expected} as expected")?;
     Ok(())
 }

@@ -28,24 +28,15 @@ impl fmt::Display for Failure {
     }
 }
 
-fn read(rt: &HostRuntime) -> Result<String, Failure> {
-    match io::read_to_string(rt.alloc(), rt.stdin()) {
-        Ok(text) => Ok(text),
-        Err(error) => Err(Failure::Input(error)),
-    }
-}
-
 // What a script prints before a fault is written too.
 fn carry_out(rt: &HostRuntime) -> Result<(), Failure> {
-    let text = read(rt)?;
+    let text = io::read_to_string(rt.alloc(), rt.stdin()).map_err(Failure::Input)?;
     let transcript = perform(rt.alloc(), text.as_str());
-    if let Err(error) = rt.print(transcript.output.as_str()) {
-        return Err(Failure::Output(error));
-    }
-    match transcript.fault {
-        None => Ok(()),
-        Some(fault) => Err(Failure::Script(fault)),
-    }
+    rt.print(transcript.output.as_str())
+        .map_err(Failure::Output)?;
+    transcript
+        .fault
+        .map_or(Ok(()), |fault| Err(Failure::Script(fault)))
 }
 
 fn main(rt: HostRuntime) -> ExitCode {

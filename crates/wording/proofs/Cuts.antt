@@ -1,5 +1,5 @@
 -- Cutting at a byte, and lines by it. Assumes nothing.
-use Rattle.std.proofs.Common.{◌≡◌, ℕ, suc, ◌+◌, ◌<◌, Bool, true, false, eqb, List, [], ◌∷◌, length, take, drop, IfSome, Some, None, Option, sym, refl, ap, ◌∙◌, subst, arith, Bor}
+use Rattle.std.proofs.Common.{◌≡◌, ℕ, suc, ◌+◌, ◌<◌, ◌≤◌, Bool, true, false, eqb, List, [], ◌∷◌, length, take, drop, IfSome, Some, None, Option, sym, refl, ap, ◌∙◌, subst, arith, Bor}
 use Rattle.std.specs.Bool.{◌==◌}
 use Rattle.std.specs.List.{position, position_from}
 use Rattle.std.specs.Option.{option_map, unwrap_or}
