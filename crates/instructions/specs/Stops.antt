@@ -1,5 +1,5 @@
 -- The numbers of stops. Assumes nothing.
-use Rattle.std.specs.Prelude.{ℕ, cond, nat_le}
+use Rattle.std.specs.Prelude.{ℕ, cond, List, codes, nat_le}
 use Rattle.reckoning.specs.Meaning.{number}
 use Rattle.instructions.specs.declared.stops.Layer.{Layer}
 use Rattle.instructions.specs.declared.stops.Layer.TheVariants.{Machine, Reckoning}
@@ -17,3 +17,8 @@ stop_number (Reckoned s) = number s
 -- The machine's numbers end at 44.
 abbrev pub stop_layer : ℕ → Layer
 stop_layer n = cond (nat_le n 44) Machine Reckoning
+
+-- How a layer is written.
+abbrev pub layer_name : Layer → List ℕ
+layer_name Machine = codes "machine"
+layer_name Reckoning = codes "reckoning"

@@ -1,8 +1,9 @@
-ghost use Rattle.std.specs.Prelude.{◌≡◌, ◌≤◌};
-ghost use Rattle.instructions.specs.Stops.{stop_number, stop_layer};
+ghost use Rattle.std.specs.Prelude.{◌≡◌, ◌≤◌, Some};
+ghost use Rattle.instructions.specs.Stops.{stop_number, stop_layer, layer_name};
 ghost use Rattle.instructions.specs.declared.stops.Stop.TheVariants.{Reckoned};
 
 use reckoning::Stop as ReckoningStop;
+use std::fmt;
 
 // Why a run stops: broken code, an index outside its array, no unit left, too many functions active, want of cells,
 // or what the reckoning says.
@@ -21,6 +22,17 @@ pub enum Stop {
 pub enum Layer {
     Machine,
     Reckoning,
+}
+
+impl fmt::Display for Layer {
+    ghost output = { λ l. Some (layer_name l) };
+
+    fn fmt<W: fmt::Write>(&self, f: &mut fmt::Formatter<W>) -> fmt::Result {
+        f.write_str(match self {
+            Layer::Machine => "machine",
+            Layer::Reckoning => "reckoning",
+        })
+    }
 }
 
 impl Stop {

@@ -1,6 +1,7 @@
 -- How a run ends: the machine halts, or stops at a place of the text. Assumes nothing.
-use Rattle.std.specs.Prelude.{ℕ, Ok, Err, Result}
+use Rattle.std.specs.Prelude.{ℕ, List, ◌++◌, Ok, Err, codes, decimal, Result}
 use Rattle.instructions.specs.declared.Stop.{Stop}
+use Rattle.instructions.specs.Stops.{stop_number, stop_layer, layer_name}
 use Rattle.machine.specs.declared.state.Stopped.{Stopped}
 
 abbrev pub Ending : Type 0
@@ -11,3 +12,7 @@ halted = Ok tt
 
 abbrev pub stopped : Stop → ℕ → Ending
 stopped e place = Err (record { stop = e; place = place })
+
+-- How a stop is written: its number, its layer and its place.
+abbrev pub stopped_text : Stopped → List ℕ
+stopped_text s = codes "stop " ++ (decimal (stop_number s.stop) ++ (codes " " ++ (layer_name (stop_layer (stop_number s.stop)) ++ (codes " at " ++ decimal s.place))))

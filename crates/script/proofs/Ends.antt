@@ -1,7 +1,7 @@
 -- What a command leaves where it ends, and where it finds no memory. Assumes nothing.
 use Rattle.std.proofs.Common.{◌≡◌, ℕ, ◌-◌, true, cond, List, ◌++◌, is_ok, is_err, Some, Ok, Err, Result, sym, ap, ◌∙◌, true≢false}
 use Rattle.std.specs.declared.alloc.AllocError.{AllocError}
-use Rattle.machine.specs.declared.state.Ending.{Ending}
+use Rattle.machine.specs.Endings.{Ending}
 use Rattle.machine.specs.declared.state.Registers.{Registers as Six}
 use Rattle.script.specs.declared.report.Report.{Report}
 use Rattle.script.specs.Reports.{noted}

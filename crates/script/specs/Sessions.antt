@@ -2,7 +2,7 @@
 use Rattle.std.specs.Prelude.{◌≡◌, ℕ, ◌-◌, Bool, true, false, List, [], ◌∷◌, ◌++◌, length, take, drop, replicate, Some, None, vec_items, string_bytes, Option, Result, MatchResult, slice_set}
 use Rattle.std.specs.declared.alloc.AllocError.{AllocError}
 use Rattle.reckoning.specs.Meaning.{Meaning}
-use Rattle.machine.specs.declared.state.Ending.{Ending}
+use Rattle.machine.specs.Endings.{Ending}
 use Rattle.machine.specs.declared.state.Registers.{Registers as Six}
 use Rattle.machine.specs.Runs.{run}
 use Rattle.commands.specs.declared.Command.{Command}

@@ -1,22 +1,14 @@
 -- The lines that a script prints. Assumes nothing.
-use Rattle.std.specs.Prelude.{ℕ, ◌+◌, Bool, cond, List, [], ◌∷◌, ◌++◌, ℤ, codes, decimal}
+use Rattle.std.specs.Prelude.{ℕ, ◌+◌, Bool, cond, List, [], ◌∷◌, ◌++◌, ℤ, Ok, Err, codes, decimal}
 use Rattle.std.specs.Fmt.{signed_decimal}
-use Rattle.instructions.specs.Stops.{stop_number, stop_layer}
-use Rattle.instructions.specs.declared.Layer.{Layer}
-use Rattle.instructions.specs.declared.Layer.TheVariants.{Machine, Reckoning}
-use Rattle.machine.specs.declared.state.Ending.{Ending}
-use Rattle.machine.specs.declared.state.Ending.TheVariants.{Halted, Stopped}
+use Rattle.machine.specs.Endings.{Ending, stopped_text}
 use Rattle.machine.specs.declared.state.Registers.{Registers}
 use Rattle.script.specs.declared.report.Report.{Report}
 
-abbrev pub layer_name : Layer → List ℕ
-layer_name Machine = codes "machine"
-layer_name Reckoning = codes "reckoning"
-
 -- How a run ended.
 abbrev pub ending_text : Ending → List ℕ
-ending_text Halted = codes "halt"
-ending_text (Stopped s at) = codes "stop " ++ (decimal (stop_number s) ++ (codes " " ++ (layer_name (stop_layer (stop_number s)) ++ (codes " at " ++ decimal at))))
+ending_text (Ok u) = codes "halt"
+ending_text (Err s) = stopped_text s
 
 abbrev pub named_text : List ℕ → ℤ → List ℕ
 named_text name z = name ++ (codes " " ++ signed_decimal z)

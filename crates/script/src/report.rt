@@ -1,9 +1,8 @@
-ghost use Rattle.std.specs.Prelude.{◌≡◌, ◌+◌, min, Some};
-ghost use Rattle.machine.specs.declared.state.Ending.TheVariants.{Halted, Stopped};
+ghost use Rattle.std.specs.Prelude.{◌≡◌, ◌+◌, min, Some, Ok, Err};
 ghost use Rattle.script.specs.Reports.{noted};
 ghost use Rattle.script.specs.Texts.{report_text};
 
-use machine::Ending;
+use machine::Stopped;
 use std::fmt;
 
 // What the runs of a script came to.
@@ -16,15 +15,15 @@ pub(crate) struct Report {
 
 impl Report {
     // Counts a run, and no count passes the end of its type.
-    pub(crate) fn note(&mut self, ending: Ending, spent: u32)
+    pub(crate) fn note(&mut self, ending: Result<(), Stopped>, spent: u32)
         ensures is { self.new ≡ noted self.old ending spent }
         ensures units { self.new.units ≡ min (self.old.units + spent) 18446744073709551615 }
-        ensures halted { self.new.halted ≡ elim ending [ Halted ↦ min (self.old.halted + 1) 4294967295 | Stopped _ _ ↦ self.old.halted ] }
-        ensures stopped { self.new.stopped ≡ elim ending [ Halted ↦ self.old.stopped | Stopped _ _ ↦ min (self.old.stopped + 1) 4294967295 ] }
+        ensures halted { self.new.halted ≡ elim ending [ Ok _ ↦ min (self.old.halted + 1) 4294967295 | Err _ ↦ self.old.halted ] }
+        ensures stopped { self.new.stopped ≡ elim ending [ Ok _ ↦ self.old.stopped | Err _ ↦ min (self.old.stopped + 1) 4294967295 ] }
     {
         match ending {
-            Ending::Halted => self.halted = self.halted.saturating_add(1),
-            Ending::Stopped(_, _) => self.stopped = self.stopped.saturating_add(1),
+            Ok(()) => self.halted = self.halted.saturating_add(1),
+            Err(_) => self.stopped = self.stopped.saturating_add(1),
         }
         self.units = self.units.saturating_add(spent as u64);
     }

@@ -1,32 +1,18 @@
 // The lines that a script prints.
 ghost use Rattle.std.specs.Prelude.{◌≡◌, IfOk, string_bytes};
-ghost use Rattle.script.specs.Texts.{layer_name, ending_text, pointers_text, run_line, report_line, row, separated};
+ghost use Rattle.script.specs.Texts.{ending_text, pointers_text, run_line, report_line, row, separated};
 
 use crate::report::Report;
 use cells::Notation;
-use instructions::Layer;
-use machine::{Ending, Registers};
+use machine::{Registers, Stopped};
 use std::alloc::{AllocError, Global};
 
-fn layer_name(layer: Layer) -> &'static str
-    ensures { result.now ≡ layer_name layer }
-{
-    match layer {
-        Layer::Machine => "machine",
-        Layer::Reckoning => "reckoning",
-    }
-}
-
-fn ending_text(heap: Global, ending: Ending) -> Result<String, AllocError>
+fn ending_text(heap: Global, ending: Result<(), Stopped>) -> Result<String, AllocError>
     ensures { IfOk result (λ s. string_bytes s ≡ ending_text ending) }
 {
     match ending {
-        Ending::Halted => String::from_str(heap, "halt"),
-        Ending::Stopped(stop, place) => {
-            let number = stop.number();
-            let layer = layer_name(stop.layer());
-            format!(in heap; "stop {number} {layer} at {place}")
-        }
+        Ok(()) => String::from_str(heap, "halt"),
+        Err(stopped) => stopped.to_string(heap),
     }
 }
 
@@ -39,7 +25,7 @@ fn pointers_text(heap: Global, registers: Registers) -> Result<String, AllocErro
 
 pub(crate) fn run_line(
     heap: Global,
-    ending: Ending,
+    ending: Result<(), Stopped>,
     registers: Registers,
     spent: u32,
 ) -> Result<String, AllocError>
