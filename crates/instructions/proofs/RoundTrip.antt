@@ -73,6 +73,9 @@ pub ok_some : {X E : Type 0} (o : Option X) (e : E) (x : X) → ok_or o e ≡ Ok
 ok_some (Some y) e x is = cc
 ok_some None e x is = cc
 
+pub encoded_is : (i : Instruction) (w : ℕ) → short (operand i) ≡ true → w ≡ 16777216 * number i + low_bits (operand i) → Some w ≡ encoded i
+encoded_is i w fits is = rw fits (ap Some is)
+
 pub instruction_back : (i : Instruction) (w : ℕ) → encoded i ≡ Some w → decoded w ≡ Some i
 instruction_back i w is = word_by i (short (operand i)) w refl is
 
