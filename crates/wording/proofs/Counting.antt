@@ -1,11 +1,11 @@
--- Digits read with a cap. Assumes nothing.
+-- Numbers read with a cap. Assumes nothing.
 use Rattle.std.proofs.Common.{◌≡◌, ℕ, ◌+◌, ◌-◌, ◌*◌, ◌<◌, ◌≤◌, Bool, true, false, cond, ◌&&◌, List, [], ◌∷◌, length, get_or, take, drop, ℤ, Some, None, Ok, Err, Option, Result, int_le, OkIff, sym, refl, ap, ◌∙◌, ⊎_elim, arith, w64, SFits, eq-eqb}
 use mir.Syntax.{w128}
 use Rattle.std.proofs.lemmas.Int.{ints}
 use Rattle.std.proofs.lemmas.Bool.{cases_lt}
 use Rattle.std.proofs.lemmas.Bool.Decides.{nat_tests}
 use Rattle.std.specs.Option.{option_map}
-use Rattle.std.proofs.lemmas.List.{drop_more, drop_all, take_rest}
+use Rattle.std.proofs.lemmas.List.{take_rest}
 use Rattle.wording.specs.declared.numerals.Misread.{Misread}
 use Rattle.wording.specs.declared.numerals.Misread.TheVariants.{OutOfRange}
 use Rattle.wording.specs.Numerals.{digit, digits_after, minus, unsigned, signed, read_within}
@@ -23,22 +23,6 @@ same_cap (b ∷ bs) m n e = by (digit b) refl (same_cap bs (10 * m + (b - 48)) (
     by : (v : Bool) → digit b ≡ v → capped (digits_after (10 * m + (b - 48)) bs) ≡ capped (digits_after (10 * n + (b - 48)) bs) → capped (digits_after m (b ∷ bs)) ≡ capped (digits_after n (b ∷ bs))
     by true f h = rw f h
     by false f h = rw f refl
-
-step : (b v : ℕ) (bs : List ℕ) → digit b ≡ true → digits_after v (b ∷ bs) ≡ digits_after (10 * v + (b - 48)) bs
-step b v bs e = rw e refl
-
-refuses : (b v : ℕ) (bs : List ℕ) → digit b ≡ false → digits_after v (b ∷ bs) ≡ None
-refuses b v bs e = rw e refl
-
-pub more_digits : (t : List ℕ) (i v w : ℕ) (o : Option ℕ) → i < length t → digit (get_or t i 0) ≡ true → w ≡ cap (10 * v + (get_or t i 0 - 48)) → capped (digits_after v (drop i t)) ≡ o → capped (digits_after w (drop (i + 1) t)) ≡ o
-more_digits t i v w o h d e inv =
-    same_cap (drop (i + 1) t) w (10 * v + (get_or t i 0 - 48)) (omega arith) ∙ ap capped (sym (step (get_or t i 0) v (drop (i + 1) t) d)) ∙ ap (λ l. capped (digits_after v l)) (sym (drop_more t i 0 h)) ∙ inv
-
-pub no_digit : (t : List ℕ) (i v : ℕ) (o : Option ℕ) → i < length t → digit (get_or t i 0) ≡ false → capped (digits_after v (drop i t)) ≡ o → None ≡ o
-no_digit t i v o h d inv = ap capped (sym (refuses (get_or t i 0) v (drop (i + 1) t) d)) ∙ ap (λ l. capped (digits_after v l)) (sym (drop_more t i 0 h)) ∙ inv
-
-pub all_digits : (t : List ℕ) (i v : ℕ) (o : Option ℕ) → length t ≤ i → v < 18446744073709551616 → capped (digits_after v (drop i t)) ≡ o → Some v ≡ o
-all_digits t i v o h f inv = ap Some (omega arith) ∙ ap (λ l. capped (digits_after v l)) (sym (drop_all i t h)) ∙ inv
 
 pub minus_front : (t : List ℕ) → 0 < length t → get_or t 0 0 ≡ 45 → (true ≡ minus t) × (take (length t - 1) (drop 1 t) ≡ unsigned t)
 minus_front [] h e = absurd (omega arith)

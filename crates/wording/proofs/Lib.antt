@@ -2,4 +2,5 @@ pub mod Cuts
 pub mod Spans
 pub mod Counting
 pub mod Places
+pub mod Folding
 mod Written

@@ -21,16 +21,10 @@ fn digits(text: &[u8]) -> Option<u64>
     if text.is_empty() {
         return None;
     }
-    let mut value: u64 = 0;
-    for b in text {
-        if !b.is_ascii_digit() {
-            return None;
-        }
-        value = value
-            .saturating_mul(10)
-            .saturating_add(u64::from(*b - b'0'));
-    }
-    Some(value)
+    text.iter().try_fold(0, |value: u64, b| {
+        let digit = char::from(*b).to_digit(10)?;
+        Some(value.saturating_mul(10).saturating_add(u64::from(digit)))
+    })
 }
 
 // Whether there is a minus sign, and what follows it.

@@ -1,12 +1,10 @@
-use Rattle.std.proofs.Common.{rules}
-use Rattle.wording.proofs.Counting.{more_digits, no_digit, all_digits}
+use Rattle.std.proofs.Common.{rules, tests}
+use Rattle.std.proofs.lemmas.Iterator.{YieldsList-from_slice}
+use Rattle.wording.proofs.Folding.{digits_folded}
 use Rattle.wording.proofs.numerals.digits.Goals as goal
 
-pub returns-then-not-is_ascii_digit : goal.returns-then-not-is_ascii_digit
-returns-then-not-is_ascii_digit c = no_digit c.args.text.now c.loop-b.b-index c.loop-b.value _ (search rules) (search rules) c.loop-b.invariant.0
-
-pub loop-b-preserved : goal.loop-b-preserved
-loop-b-preserved c = (more_digits c.args.text.now c.loop-b.b-index c.loop-b.value c.saturating_add-value.result _ (search rules) (search rules) (search rules) c.loop-b.invariant.0, search rules)
-
 pub returns : goal.returns
-returns c = all_digits c.args.text.now c.loop-b.b-index c.loop-b.value _ (search rules) c.loop-b.invariant.1 c.loop-b.invariant.0
+returns c =
+    let t = c.args.text.now in
+    let ran = c.try_fold.ensures.ran in
+    digits_folded _ (λ x. x.now) _ _ (λ a x q h. search (rules, tests)) c.try_fold.result _ ran.0 ran.1 ran.3 ran.2 t c.iter.result _ (YieldsList-from_slice t c.iter.ensures.rest) ran.4 ran.5 ran.6 (λ x h. search (rules, tests)) (search rules)
