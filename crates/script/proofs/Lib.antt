@@ -1,4 +1,3 @@
-pub mod Rows
 pub mod Fills
 pub mod Folds
 pub mod Ends

@@ -1,5 +1,5 @@
 -- The lines that a script prints. Assumes nothing.
-use Rattle.std.specs.Prelude.{ℕ, ◌+◌, Bool, cond, List, [], ◌∷◌, ◌++◌, ℤ, Ok, Err, codes, decimal}
+use Rattle.std.specs.Prelude.{ℕ, ◌+◌, List, [], ◌∷◌, ◌++◌, ℤ, Ok, Err, codes, decimal}
 use Rattle.std.specs.Fmt.{signed_decimal}
 use Rattle.machine.specs.Endings.{Ending, stopped_text}
 use Rattle.machine.specs.declared.state.Registers.{Registers}
@@ -33,9 +33,6 @@ report_line p = report_text p ++ (10 ∷ [])
 abbrev pub separator : {C : Type 0} → List C → ℕ
 separator [] = 10
 separator (c ∷ cs) = 32
-
-abbrev pub separated : Bool → List ℕ
-separated more = cond more (32 ∷ []) (10 ∷ [])
 
 abbrev pub row : {C : Type 0} → (C → List ℕ) → List C → List ℕ
 row writes [] = []

@@ -25,13 +25,13 @@ impl Report {
             Ok(()) => self.halted = self.halted.saturating_add(1),
             Err(_) => self.stopped = self.stopped.saturating_add(1),
         }
-        self.units = self.units.saturating_add(spent as u64);
+        self.units = self.units.saturating_add(u64::from(spent));
     }
 
     pub(crate) fn runs(&self) -> u64
         ensures { result ≡ self.now.halted + self.now.stopped }
     {
-        self.halted as u64 + self.stopped as u64
+        u64::from(self.halted) + u64::from(self.stopped)
     }
 }
 

@@ -13,7 +13,7 @@ use std::alloc::{AllocError, Global};
 #[derive(Drop)]
 pub(crate) struct Session<C> {
     pub(crate) store: Vec<C>,
-    // The machine takes the words of a listing and their places as two slices, so they are kept as two.
+    // Two lists, since the machine takes words and places as two slices.
     pub(crate) code: Vec<u32>,
     pub(crate) places: Vec<u32>,
     pub(crate) registers: Option<Registers>,
@@ -128,37 +128,24 @@ pub(crate) fn execute<N: Notation>(
     ensures { Done result (state session.old) (state session.new) (executed N.Reckoning.meaning N.Notation.writes (state session.old) command) }
 {
     match command {
-        Command::Nothing => Ok(()),
-        Command::Store(cells) => {
-            session.store = empty_store::<N>(heap, cells)?;
-            Ok(())
-        }
-        Command::Cell(at, value) => {
-            put(&mut session.store, at, value);
-            Ok(())
-        }
-        Command::Code => {
-            open_listing(session);
-            Ok(())
-        }
-        Command::Word(word, place) => add_word(session, word, place),
-        Command::End => {
-            session.listing = false;
-            Ok(())
-        }
-        Command::Registers(registers) => {
-            session.registers = Some(registers);
-            Ok(())
-        }
-        Command::Run(registers) => run_from::<N>(heap, session, registers),
-        Command::Show(first, count) => show::<N>(heap, session, first, count),
+        Command::Nothing => {}
+        Command::Store(cells) => session.store = empty_store::<N>(heap, cells)?,
+        Command::Cell(at, value) => put(&mut session.store, at, value),
+        Command::Code => open_listing(session),
+        Command::Word(word, place) => add_word(session, word, place)?,
+        Command::End => session.listing = false,
+        Command::Registers(registers) => session.registers = Some(registers),
+        Command::Run(registers) => run_from::<N>(heap, session, registers)?,
+        Command::Show(first, count) => show::<N>(heap, session, first, count)?,
     }
+    Ok(())
 }
 
 // Prints the report.
 pub(crate) fn finish<C>(heap: Global, session: &mut Session<C>) -> Result<(), AllocError>
     ensures { Done result (state session.old) (state session.new) (reported (state session.old)) }
 {
-    let line = texts::report_line(heap, session.report)?;
+    let report = session.report;
+    let line = format!(in heap; "{report}\n")?;
     session.output.push_str(line.as_str())
 }

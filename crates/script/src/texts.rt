@@ -1,8 +1,7 @@
-// The lines that a script prints.
+// The lines that a script prints. Each is made whole, so that an error leaves the output as it was.
 ghost use Rattle.std.specs.Prelude.{◌≡◌, IfOk, string_bytes};
-ghost use Rattle.script.specs.Texts.{ending_text, pointers_text, run_line, report_line, row, separated};
+ghost use Rattle.script.specs.Texts.{ending_text, pointers_text, run_line, row};
 
-use crate::report::Report;
 use cells::Notation;
 use machine::{Registers, Stopped};
 use std::alloc::{AllocError, Global};
@@ -16,6 +15,7 @@ fn ending_text(heap: Global, ending: Result<(), Stopped>) -> Result<String, Allo
     }
 }
 
+// A piece of its own, since a format of nine values is more than its proof computes.
 fn pointers_text(heap: Global, registers: Registers) -> Result<String, AllocError>
     ensures { IfOk result (λ s. string_bytes s ≡ pointers_text registers) }
 {
@@ -37,28 +37,17 @@ pub(crate) fn run_line(
     format!(in heap; "{ending} | {pointers} active {active} budget {budget} spent {spent}\n")
 }
 
-pub(crate) fn report_line(heap: Global, report: Report) -> Result<String, AllocError>
-    ensures { IfOk result (λ s. string_bytes s ≡ report_line report) }
-{
-    format!(in heap; "{report}\n")
-}
-
-// What follows a cell: a space where more cells are to come.
-fn separator(more: bool) -> &'static str
-    ensures { result.now ≡ separated more }
-{
-    if more { " " } else { "\n" }
-}
-
 // Cells on one line, with a space between two.
 pub(crate) fn row<N: Notation>(heap: Global, cells: &[N::Cell]) -> Result<String, AllocError>
     ensures { IfOk result (λ s. string_bytes s ≡ row N.Notation.writes cells.now) }
 {
     let mut line = String::new(heap);
-    for (i, cell) in cells.iter().enumerate() {
+    let mut rest = cells;
+    while let Some((cell, others)) = rest.split_first() {
         let text = N::write(heap, *cell)?;
         line.push_str(text.as_str())?;
-        line.push_str(separator(i + 1 < cells.len()))?;
+        line.push_str(if others.is_empty() { "\n" } else { " " })?;
+        rest = others;
     }
     Ok(line)
 }

@@ -92,6 +92,7 @@ fn begin(lines: &mut Enumerate<Lines>) -> Result<(Chosen, usize), Fault>
     ensures numbered { IfOk result (λ p. Numbered p.1 lines.new) }
 {
     let mut at = 0;
+    // After a `for` over borrowed lines a proof does not know which of them are left.
     while let Some((i, line)) = lines.next() {
         let named = reckoning_of(line).map_err(|cause| Fault { line: i + 1, cause })?;
         if let Some(chosen) = named {
