@@ -1,3 +1,2 @@
 pub mod Fills
 pub mod Folds
-pub mod Ends
