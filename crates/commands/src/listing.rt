@@ -7,7 +7,7 @@ ghost use Rattle.instructions.specs.Words.{low_bits};
 
 use crate::cause::Cause;
 use crate::words::{between, none, unsigned};
-use instructions::NAMES;
+use instructions::{NAMES, word_of};
 use wording::{first_word, is_word, place_of};
 
 fn number_of(name: &[u8]) -> Result<u8, Cause>
@@ -31,10 +31,8 @@ fn after_at(word: &[u8]) -> Option<&[u8]>
 fn word_with(number: u8, operand: i64) -> Result<u32, Cause>
     ensures { result ≡ (if int_le (negsuc 8388607) operand && int_le operand (pos 8388607) then Ok (16777216 * number + low_bits operand) else Err Cause.OperandRange) }
 {
-    if !(-0x80_0000..=0x7f_ffff).contains(&operand) {
-        return Err(Cause::OperandRange);
-    }
-    Ok(0x100_0000 * u32::from(number) + operand.rem_euclid(0x100_0000) as u32)
+    let operand = i32::try_from(operand).map_err(|_| Cause::OperandRange)?;
+    word_of(number, operand).ok_or(Cause::OperandRange)
 }
 
 // The word of a name that no operand follows.

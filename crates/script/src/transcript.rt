@@ -28,7 +28,8 @@ fn step<N: Notation>(heap: Global, session: &mut Session<N::Cell>, line: &[u8]) 
     ensures { Stepped (executed N.Reckoning.meaning N.Notation.writes) result (state session.old) (state session.new) (command N.Notation.reads (context (state session.old)) (words line.now)) }
 {
     let command = command_of::<N>(line, context_of(session))?;
-    execute::<N>(heap, session, command).map_err(|_| Cause::NoMemory)
+    execute::<N>(heap, session, command)?;
+    Ok(())
 }
 
 // What comes after the last line.
@@ -38,7 +39,8 @@ fn conclude<C>(heap: Global, session: &mut Session<C>) -> Result<(), Cause>
     if session.listing {
         return Err(Cause::NoEnd);
     }
-    finish(heap, session).map_err(|_| Cause::NoMemory)
+    finish(heap, session)?;
+    Ok(())
 }
 
 // Carries out the lines that are left after the one of this index, up to the first fault.
