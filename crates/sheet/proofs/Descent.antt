@@ -13,7 +13,7 @@ use Rattle.sheet.specs.declared.nodes.Mark.{Mark}
 use Rattle.sheet.specs.declared.nodes.Mark.TheVariants.{Round, EndRound, Square, EndSquare, Brace, EndBrace, Comma, Semicolon, Int, Return, If, Else, While, For}
 use Rattle.sheet.specs.declared.nodes.Kind.{Kind}
 use Rattle.sheet.specs.declared.nodes.Kind.TheVariants.{Number as ANumber, Name as AName, Operator as AnOperator, Exclamation as AnExclamation, Equals as AnEquals, Mark as AMark}
-use Rattle.sheet.specs.declared.nodes.Node.{Node}
+use Rattle.sheet.specs.Nodes.{Node}
 use Rattle.sheet.specs.declared.looks.Start.{Start}
 use Rattle.sheet.specs.declared.looks.Start.TheVariants.{Sign as ASign, Number as ANumeral, Name as AWord, Open, Other}
 use Rattle.sheet.specs.declared.refusal.Refusal.{Refusal}
@@ -194,7 +194,7 @@ no_application e k un (AMark m) o bs at = opened_no (is round (mark (mark_of m))
 
 module _ (ns : List Node) where
   whole_ends : (text : List ℕ) (c : Context) (e : Expr) (k : Stack) (p : ℕ) → Unapplied e → opening (kind_at ns p) ≡ true → judged text ns (here c (have e k)) p ≡ wrong 6 p
-  whole_ends text c e k p un o = refuses_at text ns c (have e k) p (λ m is. no_application e k un m.kind (ap opening (sym is) ∙ o) _ _)
+  whole_ends text c e k p un o = refuses_at text ns c (have e k) p (λ m is. no_application e k un m.item (ap opening (sym is) ∙ o) _ _)
 
   -- an operand that is whole at p
   pub complete_reads : (held i p : ℕ) (tree : List ℕ → Expr) → ((text : List ℕ) → Unapplied (tree text)) → i < p → p ≤ length ns → ((text : List ℕ) (c : Context) (k : Stack) → opens k ≡ held → Apt ns i k → judged text ns (here c (need k)) i ≡ judged text ns (here c (have (tree text) k)) p) → Reads 5 held ns i (complete_at ns p)
@@ -212,7 +212,7 @@ module _ (ns : List Node) where
       go false e = record { later = later; within = within; stops = stops_whole (kind_at ns p) e; tree = tree; by = by }
 
   -- a sign before an operand
-  sign_to : (held i : ℕ) (x : Kind) (s : Sign) → ((bs : List ℕ) (at : ℕ) (k : Stack) → feed_operand (need k) (says bs x) at ≡ on (need (sign s at k))) → (n : Node) (rest : List Node) → drop i ns ≡ n ∷ rest → n.kind ≡ x → held ≤ 8 → (r : Result ℕ Refusal) → Reads 5 held ns (i + 1) r → Reads 5 held ns i r
+  sign_to : (held i : ℕ) (x : Kind) (s : Sign) → ((bs : List ℕ) (at : ℕ) (k : Stack) → feed_operand (need k) (says bs x) at ≡ on (need (sign s at k))) → (n : Node) (rest : List Node) → drop i ns ≡ n ∷ rest → n.item ≡ x → held ≤ 8 → (r : Result ℕ Refusal) → Reads 5 held ns (i + 1) r → Reads 5 held ns i r
   sign_to held i x s takes n rest there kind low (Ok p) h =
       record {
         later = omega (arith, h.later);
@@ -222,7 +222,7 @@ module _ (ns : List Node) where
         by = λ text c k fits same apt.
             reads_on text ns c (need k) (need (sign s n.place k)) i n rest there (ap (λ y. feed_operand (need k) (says (part text n.place n.end) y) n.place) kind ∙ takes _ n.place k) (omega arith)
             ∙ h.by text c (sign s n.place k) (omega arith) same (λ _. refl)
-            ∙ same_at text ns c (have (h.tree text) (sign s n.place k)) (have (unary s n.place (h.tree text)) k) p (λ m is. alike 4 (h.tree text) (sign s n.place k) (unary s n.place (h.tree text)) k (λ q _. refl) m.kind (stops_below 4 5 m.kind (omega arith) (omega arith) (subst (Stops 5) is h.stops)) (part text m.place m.end) m.place);
+            ∙ same_at text ns c (have (h.tree text) (sign s n.place k)) (have (unary s n.place (h.tree text)) k) p (λ m is. alike 4 (h.tree text) (sign s n.place k) (unary s n.place (h.tree text)) k (λ q _. refl) m.item (stops_below 4 5 m.item (omega arith) (omega arith) (subst (Stops 5) is h.stops)) (part text m.place m.end) m.place);
       }
   sign_to held i x s takes n rest there kind low (Err f) h =
       record {
@@ -250,10 +250,10 @@ module _ (ns : List Node) where
       n : HoldsAt ns i AName
       n = holds_at ns i AName (started (kind_at ns i) AWord e)
 
-      begins : (m : Node) (rest : List Node) → drop i ns ≡ m ∷ rest → m.kind ≡ AName → (text : List ℕ) (c : Context) (k : Stack) → opens k ≡ held → judged text ns (here c (need k)) i ≡ judged text ns (here c (have (variable m.place (part text m.place m.end) plain) k)) (i + 1)
+      begins : (m : Node) (rest : List Node) → drop i ns ≡ m ∷ rest → m.item ≡ AName → (text : List ℕ) (c : Context) (k : Stack) → opens k ≡ held → judged text ns (here c (need k)) i ≡ judged text ns (here c (have (variable m.place (part text m.place m.end) plain) k)) (i + 1)
       begins m rest there kind text c k same = reads_on text ns c (need k) (have (variable m.place (part text m.place m.end) plain) k) i m rest there (ap (λ y. feed_operand (need k) (says (part text m.place m.end) y) m.place) kind) (omega arith)
 
-      go : (m : Node) (rest : List Node) → drop i ns ≡ m ∷ rest → m.kind ≡ AName → (r : Result ℕ Refusal) → Applies held ns (i + 1) r → Reads 5 held ns i r
+      go : (m : Node) (rest : List Node) → drop i ns ≡ m ∷ rest → m.item ≡ AName → (r : Result ℕ Refusal) → Applies held ns (i + 1) r → Reads 5 held ns i r
       go m rest there kind (Ok p) h =
           record {
             later = omega (arith, h.later);
@@ -267,7 +267,7 @@ module _ (ns : List Node) where
   pub other_reads : (held i : ℕ) → Other ≡ start_of (kind_at ns i) → Reads 5 held ns i (Err (refused_at i))
   other_reads held i e =
       let s = started (kind_at ns i) Other e in
-      record { by = λ text c k fits same apt. refuses_at text ns c (need k) i (λ m is. s m.kind is _ _ k (λ t. apt (ap (is_kind EndRound) is ∙ t))) }
+      record { by = λ text c k fits same apt. refuses_at text ns c (need k) i (λ m is. s m.item is _ _ k (λ t. apt (ap (is_kind EndRound) is ∙ t))) }
 
   -- operands and operators
   pub operation_reads : (least held i next : ℕ) → least ≤ 5 → ReadsTo 5 held ns i next → (r : Result ℕ Refusal) → Extends least held ns next r → Reads least held ns i r
@@ -292,14 +292,14 @@ module _ (ns : List Node) where
     operator_at : (x : Operator) × (kind_at ns i ≡ Some (AnOperator x)) × (lev ≡ level x)
     operator_at = bound (kind_at ns i) lev is (omega arith)
 
-    operator_read : (x : Operator) (n : Node) (rest : List Node) → drop i ns ≡ n ∷ rest → n.kind ≡ AnOperator x → lev ≡ level x → (text : List ℕ) (c : Context) (e : Expr) (k : Stack) → floor k ≤ least → opens k ≡ held → judged text ns (here c (have e k)) i ≡ judged text ns (here c (need (left x n.place e k))) (i + 1)
+    operator_read : (x : Operator) (n : Node) (rest : List Node) → drop i ns ≡ n ∷ rest → n.item ≡ AnOperator x → lev ≡ level x → (text : List ℕ) (c : Context) (e : Expr) (k : Stack) → floor k ≤ least → opens k ≡ held → judged text ns (here c (have e k)) i ≡ judged text ns (here c (need (left x n.place e k))) (i + 1)
     operator_read x n rest there kind same-level text c e k fits same =
         reads_on text ns c (have e k) (need (left x n.place e k)) i n rest there
         (ap (λ y. feed_operand (have e k) (says (part text n.place n.end) y) n.place) kind
         ∙ ap (λ h. on (need (left x n.place h.1 h.0))) (kept (level x) k e (level_bounds x).0 (level_bounds x).1 (omega arith)))
         (omega arith)
 
-    step_to : (x : Operator) (n : Node) (rest : List Node) → drop i ns ≡ n ∷ rest → n.kind ≡ AnOperator x → lev ≡ level x → (next : ℕ) → ReadsTo (lev + 1) held ns (i + 1) next → (r : Result ℕ Refusal) → Extends least held ns next r → Extends least held ns i r
+    step_to : (x : Operator) (n : Node) (rest : List Node) → drop i ns ≡ n ∷ rest → n.item ≡ AnOperator x → lev ≡ level x → (next : ℕ) → ReadsTo (lev + 1) held ns (i + 1) next → (r : Result ℕ Refusal) → Extends least held ns next r → Extends least held ns i r
     step_to x n rest there kind same-level next h r g = go r g
       where
         through : (text : List ℕ) (c : Context) (e : Expr) (k : Stack) → floor k ≤ least → opens k ≡ held → judged text ns (here c (have e k)) i ≡ judged text ns (here c (have (binary x n.place e (h.tree text)) k)) next
@@ -307,7 +307,7 @@ module _ (ns : List Node) where
             operator_read x n rest there kind same-level text c e k fits same
             ∙ h.by text c (left x n.place e k) (omega arith) same (λ _. refl)
             ∙ same_at text ns c (have (h.tree text) (left x n.place e k)) (have (binary x n.place e (h.tree text)) k) next
-            (λ m seen. alike (level x) (h.tree text) (left x n.place e k) (binary x n.place e (h.tree text)) k (λ q under. cond-true (leb q (level x)) (settle q k (binary x n.place e (h.tree text))) (left x n.place e k, h.tree text) (le-leb q (level x) under)) m.kind (stops_below (level x) (lev + 1) m.kind (level_bounds x).0 (omega arith) (subst (Stops (lev + 1)) seen h.stops)) (part text m.place m.end) m.place)
+            (λ m seen. alike (level x) (h.tree text) (left x n.place e k) (binary x n.place e (h.tree text)) k (λ q under. cond-true (leb q (level x)) (settle q k (binary x n.place e (h.tree text))) (left x n.place e k, h.tree text) (le-leb q (level x) under)) m.item (stops_below (level x) (lev + 1) m.item (level_bounds x).0 (omega arith) (subst (Stops (lev + 1)) seen h.stops)) (part text m.place m.end) m.place)
 
         go : (r : Result ℕ Refusal) → Extends least held ns next r → Extends least held ns i r
         go (Ok p) g =
@@ -337,7 +337,7 @@ module _ (ns : List Node) where
   pub expression_ends : (held i next : ℕ) → ReadsTo 1 held ns i next → equals_at (kind_at ns next) ≡ false → ReadsTo 0 held ns i next
   expression_ends held i next h e = record { later = h.later; within = h.within; stops = stops_none (kind_at ns next) h.stops e; tree = h.tree; by = λ text c k fits same apt. h.by text c k (omega arith) same apt }
 
-  assigns_to : (held i next : ℕ) → held ≤ 8 → ReadsTo 1 held ns i next → (n : Node) (rest : List Node) → drop next ns ≡ n ∷ rest → n.kind ≡ AnEquals → (r : Result ℕ Refusal) → Reads 0 held ns (next + 1) r → Reads 0 held ns i r
+  assigns_to : (held i next : ℕ) → held ≤ 8 → ReadsTo 1 held ns i next → (n : Node) (rest : List Node) → drop next ns ≡ n ∷ rest → n.item ≡ AnEquals → (r : Result ℕ Refusal) → Reads 0 held ns (next + 1) r → Reads 0 held ns i r
   assigns_to held i next low h n rest there kind r g = go r g
     where
       through : (text : List ℕ) (c : Context) (k : Stack) → floor k ≤ 0 → opens k ≡ held → Apt ns i k → judged text ns (here c (need k)) i ≡ judged text ns (here c (need (target n.place (h.tree text) k))) (next + 1)
@@ -359,7 +359,7 @@ module _ (ns : List Node) where
                 through text c k fits same apt
                 ∙ g.by text c (target n.place (h.tree text) k) (omega arith) same (λ _. refl)
                 ∙ same_at text ns c (have (g.tree text) (target n.place (h.tree text) k)) (have (assign n.place (h.tree text) (g.tree text)) k) p
-                (λ m seen. alike 0 (g.tree text) (target n.place (h.tree text) k) (assign n.place (h.tree text) (g.tree text)) k (λ q under. cond-true (leb q 0) (settle q k (assign n.place (h.tree text) (g.tree text))) (target n.place (h.tree text) k, g.tree text) (le-leb q 0 under)) m.kind (stops_binds 0 m.kind (subst (Stops 0) seen g.stops)) (part text m.place m.end) m.place);
+                (λ m seen. alike 0 (g.tree text) (target n.place (h.tree text) k) (assign n.place (h.tree text) (g.tree text)) k (λ q under. cond-true (leb q 0) (settle q k (assign n.place (h.tree text) (g.tree text))) (target n.place (h.tree text) k, g.tree text) (le-leb q 0 under)) m.item (stops_binds 0 m.item (subst (Stops 0) seen g.stops)) (part text m.place m.end) m.place);
           }
       go (Err f) g = record { by = λ text c k fits same apt. through text c k fits same apt ∙ g.by text c (target n.place (h.tree text) k) (omega arith) same (λ _. refl) }
 

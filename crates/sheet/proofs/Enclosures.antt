@@ -9,7 +9,7 @@ use Rattle.sheet.specs.declared.nodes.Mark.{Mark}
 use Rattle.sheet.specs.declared.nodes.Mark.TheVariants.{Round, EndRound, Square, EndSquare, Comma}
 use Rattle.sheet.specs.declared.nodes.Kind.{Kind}
 use Rattle.sheet.specs.declared.nodes.Kind.TheVariants.{Number as ANumber, Name as AName, Operator as AnOperator, Exclamation as AnExclamation, Equals as AnEquals, Mark as AMark}
-use Rattle.sheet.specs.declared.nodes.Node.{Node}
+use Rattle.sheet.specs.Nodes.{Node}
 use Rattle.sheet.specs.declared.refusal.Refusal.{Refusal}
 use Rattle.sheet.specs.Nodes.{says, part, mark_of}
 use Rattle.sheet.specs.Looks.{kind_at, is_kind, is_at, opening}
@@ -51,7 +51,7 @@ is_not m o x l h seen same = ap (λ y. is_kind m (Some y)) (sym same) ∙ ap (is
 module _ (ns : List Node) where
   -- a record that holds a mark
   MarkAt : Mark → ℕ → Type 0
-  MarkAt m i = (n : Node) × (rest : List Node) × (l : Mark) × (drop i ns ≡ n ∷ rest) × (n.kind ≡ AMark l) × (is (mark_of m) (mark (mark_of l)) ≡ true)
+  MarkAt m i = (n : Node) × (rest : List Node) × (l : Mark) × (drop i ns ≡ n ∷ rest) × (n.item ≡ AMark l) × (is (mark_of m) (mark (mark_of l)) ≡ true)
 
   mark_at : (m : Mark) (i : ℕ) → is_at ns i m ≡ true → MarkAt m i
   unfolding MarkAt
@@ -62,7 +62,7 @@ module _ (ns : List Node) where
 
   module _ (held i m : ℕ) where
     -- "(" before an expression
-    bracket_fed : (n : Node) (l : Mark) → n.kind ≡ AMark l → is round (mark (mark_of l)) ≡ true → (text : List ℕ) (k : Stack) → fed text (need k) n ≡ on (need (bracket k))
+    bracket_fed : (n : Node) (l : Mark) → n.item ≡ AMark l → is round (mark (mark_of l)) ≡ true → (text : List ℕ) (k : Stack) → fed text (need k) n ≡ on (need (bracket k))
     bracket_fed n l kind e text k = ap (λ y. feed_operand (need k) (says (part text n.place n.end) y) n.place) kind ∙ cond-true _ _ _ e
 
     pub bracket_deep : (f : Refusal) → is_at ns i Round ≡ true → ◌≡◌ {A = Result ℕ Refusal} (Err f) (enter_at i held) → ReadsNot 5 held ns i f
@@ -93,7 +93,7 @@ module _ (ns : List Node) where
             let room = enter_works i held m e in
             bracket_in at-round e text c k same ∙ h.by text c (bracket k) zero-le (omega (arith, room.0)) (λ _. refl)
 
-        shuts : (n : Node) (rest : List Node) (l : Mark) → drop last ns ≡ n ∷ rest → n.kind ≡ AMark l → is end_round (mark (mark_of l)) ≡ true → opening (Some (AMark l)) ≡ false → Reads 5 held ns i (complete_at ns (last + 1))
+        shuts : (n : Node) (rest : List Node) (l : Mark) → drop last ns ≡ n ∷ rest → n.item ≡ AMark l → is end_round (mark (mark_of l)) ≡ true → opening (Some (AMark l)) ≡ false → Reads 5 held ns i (complete_at ns (last + 1))
         shuts n rest l there kind closes-it shut =
             let room = enter_works i held m e in
             complete_reads ns held i (last + 1) (λ text. brackets (h.tree text)) (λ text a. refl) (omega (arith, h.later)) (omega (arith, inside_table last ns n rest there))
@@ -108,10 +108,10 @@ module _ (ns : List Node) where
             let l = marked EndRound (kind_at ns last) t in
             let n = holds_at ns last (AMark l.0) l.1 in
             shuts n.0 n.1 l.0 n.2 n.3 l.2 (subst (Stops 0) l.1 h.stops)
-        go false t = record { by = λ text c k fits same apt. into text c k same ∙ refuses_at text ns c (have (h.tree text) (bracket k)) last (λ n seen. unclosed (bracket k) (h.tree text) refl n.kind (subst (Stops 0) seen h.stops) (λ l same_kind. cond-false _ _ _ (is_not EndRound (kind_at ns last) n.kind l t seen same_kind)) (part text n.place n.end) n.place) }
+        go false t = record { by = λ text c k fits same apt. into text c k same ∙ refuses_at text ns c (have (h.tree text) (bracket k)) last (λ n seen. unclosed (bracket k) (h.tree text) refl n.item (subst (Stops 0) seen h.stops) (λ l same_kind. cond-false _ _ _ (is_not EndRound (kind_at ns last) n.item l t seen same_kind)) (part text n.place n.end) n.place) }
 
     -- "[" behind a name
-    element_fed : (n : Node) (l : Mark) → n.kind ≡ AMark l → is square (mark (mark_of l)) ≡ true → (text : List ℕ) (at : ℕ) (x : Name) (k : Stack) → fed text (have (variable at x plain) k) n ≡ on (need (element at x n.place k))
+    element_fed : (n : Node) (l : Mark) → n.item ≡ AMark l → is square (mark (mark_of l)) ≡ true → (text : List ℕ) (at : ℕ) (x : Name) (k : Stack) → fed text (have (variable at x plain) k) n ≡ on (need (element at x n.place k))
     element_fed n l kind e text at x k =
         ap (λ y. feed_operand (have (variable at x plain) k) (says (part text n.place n.end) y) n.place) kind
         ∙ cond-false _ _ _ (differ 2 0 (code (mark_of l)) e (λ z. omega arith)) ∙ cond-true _ _ _ e
@@ -123,7 +123,7 @@ module _ (ns : List Node) where
         let past = enter_fails i held f e in
         record { by = λ text c at x k same. past_limit text ns c (have (variable at x plain) k) (need (element at x n.0.place k)) i n.0 n.1 n.3 (element_fed n.0 n.2 n.4 n.5 text at x k) (omega (arith, past.1)) ∙ ap refusal (sym past.0) }
 
-    element_in : (n : Node) (rest : List Node) (l : Mark) → drop i ns ≡ n ∷ rest → n.kind ≡ AMark l → is square (mark (mark_of l)) ≡ true → ◌≡◌ {A = Result ℕ Refusal} (Ok m) (enter_at i held) → (text : List ℕ) (c : Context) (at : ℕ) (x : Name) (k : Stack) → opens k ≡ held → judged text ns (here c (have (variable at x plain) k)) i ≡ judged text ns (here c (need (element at x n.place k))) (i + 1)
+    element_in : (n : Node) (rest : List Node) (l : Mark) → drop i ns ≡ n ∷ rest → n.item ≡ AMark l → is square (mark (mark_of l)) ≡ true → ◌≡◌ {A = Result ℕ Refusal} (Ok m) (enter_at i held) → (text : List ℕ) (c : Context) (at : ℕ) (x : Name) (k : Stack) → opens k ≡ held → judged text ns (here c (have (variable at x plain) k)) i ≡ judged text ns (here c (need (element at x n.place k))) (i + 1)
     element_in n rest l there kind square-there e text c at x k same =
         let room = enter_works i held m e in
         reads_on text ns c (have (variable at x plain) k) (need (element at x n.place k)) i n rest there (element_fed n l kind square-there text at x k) (omega (arith, room.1))
@@ -135,7 +135,7 @@ module _ (ns : List Node) where
         let room = enter_works i held m e in
         record { by = λ text c at x k same. element_in n.0 n.1 n.2 n.3 n.4 n.5 e text c at x k same ∙ h.by text c (element at x n.0.place k) zero-le (omega (arith, room.0)) (λ _. refl) }
 
-    element_to : (last : ℕ) (o : Node) (others : List Node) (q : Mark) → drop i ns ≡ o ∷ others → o.kind ≡ AMark q → is square (mark (mark_of q)) ≡ true → ◌≡◌ {A = Result ℕ Refusal} (Ok m) (enter_at i held) → ReadsTo 0 m ns (i + 1) last → Applies held ns i (close_at ns last EndSquare)
+    element_to : (last : ℕ) (o : Node) (others : List Node) (q : Mark) → drop i ns ≡ o ∷ others → o.item ≡ AMark q → is square (mark (mark_of q)) ≡ true → ◌≡◌ {A = Result ℕ Refusal} (Ok m) (enter_at i held) → ReadsTo 0 m ns (i + 1) last → Applies held ns i (close_at ns last EndSquare)
     element_to last o others q at-o o-kind square-there e h = go (is_at ns last EndSquare) refl
       where
         into : (text : List ℕ) (c : Context) (at : ℕ) (x : Name) (k : Stack) → opens k ≡ held → judged text ns (here c (have (variable at x plain) k)) i ≡ judged text ns (here c (have (h.tree text) (element at x o.place k))) last
@@ -143,7 +143,7 @@ module _ (ns : List Node) where
             let room = enter_works i held m e in
             element_in o others q at-o o-kind square-there e text c at x k same ∙ h.by text c (element at x o.place k) zero-le (omega (arith, room.0)) (λ _. refl)
 
-        shuts : (n : Node) (rest : List Node) (l : Mark) → drop last ns ≡ n ∷ rest → n.kind ≡ AMark l → is end_square (mark (mark_of l)) ≡ true → opening (Some (AMark l)) ≡ false → Applies held ns i (complete_at ns (last + 1))
+        shuts : (n : Node) (rest : List Node) (l : Mark) → drop last ns ≡ n ∷ rest → n.item ≡ AMark l → is end_square (mark (mark_of l)) ≡ true → opening (Some (AMark l)) ≡ false → Applies held ns i (complete_at ns (last + 1))
         shuts n rest l there kind closes-it shut =
             let room = enter_works i held m e in
             complete_applies ns held i (last + 1) (λ text at x. variable at x (index o.place (h.tree text) plain)) (λ text at x a. refl) (omega (arith, h.later)) (omega (arith, inside_table last ns n rest there))
@@ -158,7 +158,7 @@ module _ (ns : List Node) where
             let l = marked EndSquare (kind_at ns last) t in
             let n = holds_at ns last (AMark l.0) l.1 in
             shuts n.0 n.1 l.0 n.2 n.3 l.2 (subst (Stops 0) l.1 h.stops)
-        go false t = record { by = λ text c at x k same. into text c at x k same ∙ refuses_at text ns c (have (h.tree text) (element at x o.place k)) last (λ n seen. unclosed (element at x o.place k) (h.tree text) refl n.kind (subst (Stops 0) seen h.stops) (λ l same_kind. cond-false _ _ _ (is_not EndSquare (kind_at ns last) n.kind l t seen same_kind)) (part text n.place n.end) n.place) }
+        go false t = record { by = λ text c at x k same. into text c at x k same ∙ refuses_at text ns c (have (h.tree text) (element at x o.place k)) last (λ n seen. unclosed (element at x o.place k) (h.tree text) refl n.item (subst (Stops 0) seen h.stops) (λ l same_kind. cond-false _ _ _ (is_not EndSquare (kind_at ns last) n.item l t seen same_kind)) (part text n.place n.end) n.place) }
 
     pub element_close : (last : ℕ) → is_at ns i Square ≡ true → ◌≡◌ {A = Result ℕ Refusal} (Ok m) (enter_at i held) → ReadsTo 0 m ns (i + 1) last → Applies held ns i (close_at ns last EndSquare)
     unfolding MarkAt
@@ -167,7 +167,7 @@ module _ (ns : List Node) where
         element_to last n.0 n.1 n.2 n.3 n.4 n.5 e h
 
     -- "(" behind a name
-    call_fed : (n : Node) (l : Mark) → n.kind ≡ AMark l → is round (mark (mark_of l)) ≡ true → (text : List ℕ) (at : ℕ) (x : Name) (k : Stack) → fed text (have (variable at x plain) k) n ≡ on (need (called at x n.place [] k))
+    call_fed : (n : Node) (l : Mark) → n.item ≡ AMark l → is round (mark (mark_of l)) ≡ true → (text : List ℕ) (at : ℕ) (x : Name) (k : Stack) → fed text (have (variable at x plain) k) n ≡ on (need (called at x n.place [] k))
     call_fed n l kind e text at x k =
         ap (λ y. feed_operand (have (variable at x plain) k) (says (part text n.place n.end) y) n.place) kind
         ∙ cond-true _ _ _ e
@@ -179,12 +179,12 @@ module _ (ns : List Node) where
         let past = enter_fails i held f e in
         record { by = λ text c at x k same. past_limit text ns c (have (variable at x plain) k) (need (called at x n.0.place [] k)) i n.0 n.1 n.3 (call_fed n.0 n.2 n.4 n.5 text at x k) (omega (arith, past.1)) ∙ ap refusal (sym past.0) }
 
-    call_in : (n : Node) (rest : List Node) (l : Mark) → drop i ns ≡ n ∷ rest → n.kind ≡ AMark l → is round (mark (mark_of l)) ≡ true → ◌≡◌ {A = Result ℕ Refusal} (Ok m) (enter_at i held) → (text : List ℕ) (c : Context) (at : ℕ) (x : Name) (k : Stack) → opens k ≡ held → judged text ns (here c (have (variable at x plain) k)) i ≡ judged text ns (here c (need (called at x n.place [] k))) (i + 1)
+    call_in : (n : Node) (rest : List Node) (l : Mark) → drop i ns ≡ n ∷ rest → n.item ≡ AMark l → is round (mark (mark_of l)) ≡ true → ◌≡◌ {A = Result ℕ Refusal} (Ok m) (enter_at i held) → (text : List ℕ) (c : Context) (at : ℕ) (x : Name) (k : Stack) → opens k ≡ held → judged text ns (here c (have (variable at x plain) k)) i ≡ judged text ns (here c (need (called at x n.place [] k))) (i + 1)
     call_in n rest l there kind round-there e text c at x k same =
         let room = enter_works i held m e in
         reads_on text ns c (have (variable at x plain) k) (need (called at x n.place [] k)) i n rest there (call_fed n l kind round-there text at x k) (omega (arith, room.1))
 
-    empty_fed : (o n : Node) (l : Mark) → n.kind ≡ AMark l → is end_round (mark (mark_of l)) ≡ true → (text : List ℕ) (at : ℕ) (x : Name) (k : Stack) → fed text (need (called at x o.place [] k)) n ≡ on (have (call at x o.place no_args) k)
+    empty_fed : (o n : Node) (l : Mark) → n.item ≡ AMark l → is end_round (mark (mark_of l)) ≡ true → (text : List ℕ) (at : ℕ) (x : Name) (k : Stack) → fed text (need (called at x o.place [] k)) n ≡ on (have (call at x o.place no_args) k)
     empty_fed o n l kind e text at x k =
         ap (λ y. feed_operand (need (called at x o.place [] k)) (says (part text n.place n.end) y) n.place) kind
         ∙ cond-false _ _ _ (differ 1 0 (code (mark_of l)) e (λ z. omega arith)) ∙ cond-true _ _ _ e
@@ -225,7 +225,7 @@ module _ (ns : List Node) where
   arguments_break held i f h = record { by = λ text c at x q ds k same apt. h.by text c (called at x q ds k) zero-le same apt }
 
   module _ (held i next : ℕ) (low : held ≤ 8) (h : ReadsTo 0 held ns i next) where
-    comma_in : (n : Node) (rest : List Node) (l : Mark) → drop next ns ≡ n ∷ rest → n.kind ≡ AMark l → is comma (mark (mark_of l)) ≡ true → opening (Some (AMark l)) ≡ false → (text : List ℕ) (c : Context) (at : ℕ) (x : Name) (q : ℕ) (ds : List Expr) (k : Stack) → suc (opens k) ≡ held → Apt ns i (called at x q ds k) → judged text ns (here c (need (called at x q ds k))) i ≡ judged text ns (here c (need (called at x q (h.tree text ∷ ds) k))) (next + 1)
+    comma_in : (n : Node) (rest : List Node) (l : Mark) → drop next ns ≡ n ∷ rest → n.item ≡ AMark l → is comma (mark (mark_of l)) ≡ true → opening (Some (AMark l)) ≡ false → (text : List ℕ) (c : Context) (at : ℕ) (x : Name) (q : ℕ) (ds : List Expr) (k : Stack) → suc (opens k) ≡ held → Apt ns i (called at x q ds k) → judged text ns (here c (need (called at x q ds k))) i ≡ judged text ns (here c (need (called at x q (h.tree text ∷ ds) k))) (next + 1)
     comma_in n rest l there kind comma-there shut text c at x q ds k same apt =
         h.by text c (called at x q ds k) zero-le same apt
         ∙ reads_on text ns c (have (h.tree text) (called at x q ds k)) (need (called at x q (h.tree text ∷ ds) k)) next n rest there
@@ -234,7 +234,7 @@ module _ (ns : List Node) where
         (cond-false _ _ _ (differ 6 1 (code (mark_of l)) comma-there (λ z. omega arith)) ∙ cond-true _ _ _ comma-there))
         (omega arith)
 
-    more_to : (n : Node) (rest : List Node) (l : Mark) → drop next ns ≡ n ∷ rest → n.kind ≡ AMark l → is comma (mark (mark_of l)) ≡ true → opening (Some (AMark l)) ≡ false → (r : Result ℕ Refusal) → Passes held ns (next + 1) r → Passes held ns i r
+    more_to : (n : Node) (rest : List Node) (l : Mark) → drop next ns ≡ n ∷ rest → n.item ≡ AMark l → is comma (mark (mark_of l)) ≡ true → opening (Some (AMark l)) ≡ false → (r : Result ℕ Refusal) → Passes held ns (next + 1) r → Passes held ns i r
     more_to n rest l there kind comma-there shut (Ok p) g =
         record {
           later = omega (arith, h.later, g.later);
@@ -252,7 +252,7 @@ module _ (ns : List Node) where
         let n = holds_at ns next (AMark l.0) l.1 in
         more_to n.0 n.1 l.0 n.2 n.3 l.2 (subst (Stops 0) l.1 h.stops) r g
 
-    last_to : (n : Node) (rest : List Node) (l : Mark) → drop next ns ≡ n ∷ rest → n.kind ≡ AMark l → is end_round (mark (mark_of l)) ≡ true → opening (Some (AMark l)) ≡ false → PassesTo held ns i (next + 1)
+    last_to : (n : Node) (rest : List Node) (l : Mark) → drop next ns ≡ n ∷ rest → n.item ≡ AMark l → is end_round (mark (mark_of l)) ≡ true → opening (Some (AMark l)) ≡ false → PassesTo held ns i (next + 1)
     last_to n rest l there kind end-there shut =
         record {
           later = omega (arith, h.later);
@@ -278,6 +278,6 @@ module _ (ns : List Node) where
         record {
           by = λ text c at x q ds k same apt.
               h.by text c (called at x q ds k) zero-le same apt
-              ∙ refuses_at text ns c (have (h.tree text) (called at x q ds k)) next (λ n seen. unclosed (called at x q ds k) (h.tree text) refl n.kind (subst (Stops 0) seen h.stops)
-              (λ l same_kind. cond-false _ _ _ (is_not EndRound (kind_at ns next) n.kind l no_end seen same_kind) ∙ cond-false _ _ _ (is_not Comma (kind_at ns next) n.kind l no-comma seen same_kind)) (part text n.place n.end) n.place);
+              ∙ refuses_at text ns c (have (h.tree text) (called at x q ds k)) next (λ n seen. unclosed (called at x q ds k) (h.tree text) refl n.item (subst (Stops 0) seen h.stops)
+              (λ l same_kind. cond-false _ _ _ (is_not EndRound (kind_at ns next) n.item l no_end seen same_kind) ∙ cond-false _ _ _ (is_not Comma (kind_at ns next) n.item l no-comma seen same_kind)) (part text n.place n.end) n.place);
         }

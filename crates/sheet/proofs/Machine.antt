@@ -5,7 +5,7 @@ use Rattle.std.proofs.lemmas.Bool.{le-ltb, lt-ltb, or_from, or_left}
 use Rattle.grammar.specs.Parsing.{Operand, Answer, no, on, feed_operand, resumes, turns, State, feed, refused, ending}
 use Rattle.grammar.specs.Limits.{opens_in, deep, Judgement, right, wrong, postponed, finally, if_shallow, judge}
 use Rattle.sheet.specs.declared.nodes.Kind.{Kind}
-use Rattle.sheet.specs.declared.nodes.Node.{Node}
+use Rattle.sheet.specs.Nodes.{Node}
 use Rattle.sheet.specs.Nodes.{says, part, token_of, tokens_of}
 use Rattle.sheet.specs.Looks.{first_kind, kind_at}
 use Rattle.sheet.specs.Runs.{shifted, judged, Context, here}
@@ -22,18 +22,18 @@ shifted_postponed i (wrong n j) = let on_one : i + suc j ≡ i + 1 + j = omega a
 
 -- what a record shows, at its kind
 abbrev pub HoldsAt : List Node → ℕ → Kind → Type 0
-HoldsAt ns i k = (n : Node) × (rest : List Node) × (drop i ns ≡ n ∷ rest) × (n.kind ≡ k)
+HoldsAt ns i k = (n : Node) × (rest : List Node) × (drop i ns ≡ n ∷ rest) × (n.item ≡ k)
 
 pub holds_at : (ns : List Node) (i : ℕ) (k : Kind) → kind_at ns i ≡ Some k → HoldsAt ns i k
 holds_at ns i k is = go (drop i ns) refl is
   where
     go : (l : List Node) → drop i ns ≡ l → first_kind l ≡ Some k → HoldsAt ns i k
     go [] there e = let z : ◌≡◌ {A = ℕ} 0 1 = cc in absurd (omega arith)
-    go (n ∷ rest) there e = let same : n.kind ≡ k = cc in (n, rest, there, same)
+    go (n ∷ rest) there e = let same : n.item ≡ k = cc in (n, rest, there, same)
 
 -- what an operand makes of a record
 abbrev pub fed : List ℕ → Operand → Node → Answer
-fed text o n = feed_operand o (says (part text n.place n.end) n.kind) n.place
+fed text o n = feed_operand o (says (part text n.place n.end) n.item) n.place
 
 module _ (text : List ℕ) (ns : List Node) where
   goes_on : (s u : State) (i : ℕ) (n : Node) (rest : List Node) → drop i ns ≡ n ∷ rest → feed s (token_of text n) ≡ Some u → deep u ≡ false → judged text ns s i ≡ judged text ns u (i + 1)
@@ -86,14 +86,14 @@ module _ (text : List ℕ) (ns : List Node) where
     past_limit o q i n rest there takes high =
         too_deep (here c o) (here c q) i n rest there (ap onward takes) (or_left _ _ (lt-ltb 8 (opens_in q) high))
 
-    pub refuses_at : (o : Operand) (i : ℕ) → ((n : Node) → kind_at ns i ≡ Some n.kind → fed text o n ≡ no) → judged text ns (here c o) i ≡ wrong 6 i
+    pub refuses_at : (o : Operand) (i : ℕ) → ((n : Node) → kind_at ns i ≡ Some n.item → fed text o n ≡ no) → judged text ns (here c o) i ≡ wrong 6 i
     refuses_at o i refuses = go (drop i ns) refl
       where
         go : (l : List Node) → drop i ns ≡ l → judged text ns (here c o) i ≡ wrong 6 i
         go [] there = ended_at (here c o) i there refl
         go (n ∷ rest) there = stuck_at (here c o) i n rest there (ap onward (refuses n (ap first_kind there)))
 
-    pub same_at : (o q : Operand) (i : ℕ) → ((n : Node) → kind_at ns i ≡ Some n.kind → fed text o n ≡ fed text q n) → judged text ns (here c o) i ≡ judged text ns (here c q) i
+    pub same_at : (o q : Operand) (i : ℕ) → ((n : Node) → kind_at ns i ≡ Some n.item → fed text o n ≡ fed text q n) → judged text ns (here c o) i ≡ judged text ns (here c q) i
     same_at o q i same = go (drop i ns) refl
       where
         go : (l : List Node) → drop i ns ≡ l → judged text ns (here c o) i ≡ judged text ns (here c q) i

@@ -10,7 +10,7 @@ use Rattle.tokens.specs.declared.lexemes.Sign.TheVariants.{OpenRound, CloseRound
 use Rattle.tokens.specs.Tokens.{Lexeme, word, sign, name, number, Measured, Piece, inner, digit, letter, value, needless, kept, named, sized, single, double, short, long, signed, begun, front_of, placed, some_piece, at_place, past_gaps, next, before, tokens}
 use Rattle.tokens.proofs.Turns.{onward, follow, step}
 use Rattle.grammar.specs.Lexemes.{identifier}
-use Rattle.sheet.specs.declared.nodes.Node.{Node}
+use Rattle.sheet.specs.Nodes.{Node}
 use Rattle.sheet.specs.Nodes.{kind_of_word, kind_of_sign, kind_of, record_of, filled, says, part, token_of, tokens_of, said, token, told, meant}
 
 -- A name is so many bytes of the front.

@@ -2,13 +2,13 @@
 use Rattle.std.proofs.Common.{◌≡◌, ℕ, suc, ◌+◌, ◌-◌, ◌<◌, List, [], ◌∷◌, ◌++◌, Some, None, Ok, Err, Option, Result, sym, refl, ap, ◌∙◌, append_assoc, append-nil, arith}
 use Rattle.tokens.specs.declared.fault.Cause.TheVariants.{Count}
 use Rattle.tokens.specs.declared.fault.Fault.{Fault}
-use Rattle.tokens.specs.declared.lexemes.Found.{Found}
+use Rattle.tokens.specs.Answers.{Found}
 use Rattle.tokens.specs.declared.stream.Tokens.{Tokens}
 use Rattle.tokens.specs.Answers.{piece_of}
 use Rattle.tokens.specs.Stream.{Gives}
 use Rattle.tokens.specs.Tokens.{Piece, before}
 use Rattle.tokens.proofs.Turns.{coming, came, coming_is}
-use Rattle.sheet.specs.declared.nodes.Node.{Node}
+use Rattle.sheet.specs.Nodes.{Node}
 use Rattle.sheet.specs.Nodes.{record_of, filled}
 
 -- records before those that come

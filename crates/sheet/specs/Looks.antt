@@ -8,14 +8,14 @@ use Rattle.sheet.specs.declared.nodes.Mark.{Mark}
 use Rattle.sheet.specs.declared.nodes.Mark.TheVariants.{Round, EndRound, Square, EndSquare, Brace, EndBrace, Comma, Semicolon, Int, Return, If, Else, While, For}
 use Rattle.sheet.specs.declared.nodes.Kind.{Kind}
 use Rattle.sheet.specs.declared.nodes.Kind.TheVariants.{Number as ANumber, Name as AName, Operator as AnOperator, Exclamation as AnExclamation, Equals as AnEquals, Mark as AMark}
-use Rattle.sheet.specs.declared.nodes.Node.{Node}
+use Rattle.sheet.specs.Nodes.{Node}
 use Rattle.sheet.specs.declared.looks.Start.{Start}
 use Rattle.sheet.specs.declared.looks.Start.TheVariants.{Sign, Number, Name, Open, Other}
 use Rattle.sheet.specs.Nodes.{says, mark_of}
 
 abbrev pub first_kind : List Node → Option Kind
 first_kind [] = None
-first_kind (n ∷ ns) = Some n.kind
+first_kind (n ∷ ns) = Some n.item
 
 abbrev pub kind_at : List Node → ℕ → Option Kind
 kind_at ns i = first_kind (drop i ns)

@@ -14,7 +14,7 @@ use Rattle.sheet.specs.declared.nodes.Mark.{Mark}
 use Rattle.sheet.specs.declared.nodes.Mark.TheVariants.{Round, EndRound, Square, EndSquare, Brace, EndBrace, Comma as AComma, Semicolon as ASemicolon, Int as IntWord, Return as ReturnWord, If as IfWord, Else as ElseWord, While as WhileWord, For as ForWord}
 use Rattle.sheet.specs.declared.nodes.Kind.{Kind}
 use Rattle.sheet.specs.declared.nodes.Kind.TheVariants.{Number as ANumber, Name as AName, Operator as AnOperator, Exclamation as AnExclamation, Equals as AnEquals, Mark as AMark}
-use Rattle.sheet.specs.declared.nodes.Node.{Node}
+use Rattle.tokens.specs.declared.Spanned.{Spanned}
 
 abbrev pub kind_of_word : Word → Kind
 kind_of_word Int = AMark IntWord
@@ -53,9 +53,12 @@ kind_of (sign s) = kind_of_sign s
 kind_of (name bs) = AName
 kind_of (number ds n) = ANumber n
 
+abbrev pub Node : Type 0
+Node = Spanned Kind
+
 -- the record of a token
 abbrev pub record_of : Piece → Node
-record_of x = record { kind = kind_of x.lexeme; place = x.place; end = x.end }
+record_of x = record { item = kind_of x.lexeme; place = x.place; end = x.end }
 
 -- the records of a text's tokens, or its earliest fault
 abbrev pub filled : Result (List Piece) Fault → Result (List Node) Fault
@@ -98,7 +101,7 @@ part text from to = take (to - from) (drop from text)
 
 -- the grammar's token that a record shows
 abbrev pub token_of : List ℕ → Node → Token
-token_of text n = (says (part text n.place n.end) n.kind, n.place)
+token_of text n = (says (part text n.place n.end) n.item, n.place)
 
 abbrev pub tokens_of : List ℕ → List Node → List Token
 tokens_of text ns = map (token_of text) ns

@@ -8,7 +8,7 @@ use Rattle.sheet.specs.declared.nodes.Mark.{Mark}
 use Rattle.sheet.specs.declared.nodes.Mark.TheVariants.{EndRound}
 use Rattle.sheet.specs.declared.nodes.Kind.{Kind}
 use Rattle.sheet.specs.declared.nodes.Kind.TheVariants.{Number as ANumber, Name as AName, Operator as AnOperator, Exclamation as AnExclamation, Equals as AnEquals, Mark as AMark}
-use Rattle.sheet.specs.declared.nodes.Node.{Node}
+use Rattle.sheet.specs.Nodes.{Node}
 use Rattle.sheet.specs.declared.refusal.Reason.{Reason}
 use Rattle.sheet.specs.declared.refusal.Reason.TheVariants.{Grammar, Depth}
 use Rattle.sheet.specs.declared.refusal.Refusal.{Refusal}

@@ -4,7 +4,7 @@ ghost use Rattle.tokens.specs.Tokens.{tokens};
 ghost use Rattle.sheet.specs.Nodes.{filled, shown, told, meant};
 
 use crate::nodes::Node;
-use tokens::{Cause, Fault, Tokens};
+use tokens::{Cause, Fault, Spanned, Tokens};
 
 // How many tokens a text has, each shown by its record: at most 4,096, and at most as many as there are records.
 pub fn fill(text: &[u8], nodes: &mut [Node]) -> Result<usize, Fault>
@@ -21,7 +21,11 @@ pub fn fill(text: &[u8], nodes: &mut [Node]) -> Result<usize, Fault>
                 place: found.place,
             });
         }
-        nodes[count] = found.into();
+        nodes[count] = Spanned {
+            item: found.item.into(),
+            place: found.place,
+            end: found.end,
+        };
         count += 1;
     }
     Ok(count)

@@ -20,7 +20,7 @@ pub(crate) enum Start {
 pub(crate) fn kind_at(nodes: &[Node], at: usize) -> Option<Kind>
     ensures { result ≡ kind_at nodes.now at }
 {
-    nodes.get(at).map(|node| node.kind)
+    nodes.get(at).map(|node| node.item)
 }
 
 pub(crate) fn start_of(kind: Option<Kind>) -> Start

@@ -1,10 +1,10 @@
 // The records of a text's tokens.
 ghost use Rattle.std.specs.Prelude.{◌≡◌};
-ghost use Rattle.tokens.specs.Answers.{lexeme_of, piece_of};
-ghost use Rattle.sheet.specs.Nodes.{kind_of_word, kind_of_sign, kind_of, record_of};
+ghost use Rattle.tokens.specs.Answers.{lexeme_of};
+ghost use Rattle.sheet.specs.Nodes.{kind_of_word, kind_of_sign, kind_of};
 
 use reckoning::{Comparison, Operator};
-use tokens::{Found, Sign, Token, Word};
+use tokens::{Sign, Spanned, Token, Word};
 
 // The tokens that say nothing but which they are.
 #[derive(Debug, Clone, Copy, PartialEq, Eq, Drop)]
@@ -26,7 +26,7 @@ pub enum Mark {
 }
 
 // What the grammar tells apart. A minus is an operator, before one operand too.
-#[derive(Clone, Copy, Drop)]
+#[derive(Debug, Clone, Copy, PartialEq, Eq, Drop)]
 pub enum Kind {
     Number(u32),
     Name,
@@ -36,13 +36,8 @@ pub enum Kind {
     Mark(Mark),
 }
 
-// A token, the place of its first byte, and the place behind its last.
-#[derive(Clone, Copy, Drop)]
-pub struct Node {
-    pub kind: Kind,
-    pub place: usize,
-    pub end: usize,
-}
+// What the grammar is told of a token, with its place and where it ends.
+pub type Node = Spanned<Kind>;
 
 impl From<Word> for Kind {
     ghost from_gives = { λ word kind. kind ≡ kind_of_word word };
@@ -98,18 +93,6 @@ impl From<Token<'_>> for Kind {
             Token::Sign(sign) => sign.into(),
             Token::Name(_) => Kind::Name,
             Token::Number(_, value) => Kind::Number(value),
-        }
-    }
-}
-
-impl From<Found<'_>> for Node {
-    ghost from_gives = { λ found node. node ≡ record_of (piece_of found) };
-
-    fn from(found: Found<'_>) -> Self {
-        Node {
-            kind: found.token.into(),
-            place: found.place,
-            end: found.end,
         }
     }
 }

@@ -5,7 +5,7 @@ use Rattle.std.proofs.lemmas.List.{drop-drop}
 use Rattle.std.proofs.lemmas.Bool.{cond-true, cond-false}
 use Rattle.tokens.specs.declared.fault.Cause.TheVariants.{Count}
 use Rattle.tokens.specs.declared.fault.Fault.{Fault}
-use Rattle.tokens.specs.declared.lexemes.Found.{Found}
+use Rattle.tokens.specs.Answers.{Found}
 use Rattle.tokens.specs.declared.stream.Tokens.{Tokens}
 use Rattle.tokens.specs.Stream.{Gives}
 use Rattle.tokens.specs.Answers.{piece_of}

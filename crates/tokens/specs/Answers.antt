@@ -2,7 +2,7 @@
 use Rattle.std.specs.Prelude.{ℕ, Some, None, Ok, Err, Option, Result}
 use Rattle.tokens.specs.declared.fault.Cause.{Cause}
 use Rattle.tokens.specs.declared.fault.Fault.{Fault}
-use Rattle.tokens.specs.declared.lexemes.Found.{Found}
+use Rattle.tokens.specs.declared.lexemes.Spanned.{Spanned}
 use Rattle.tokens.specs.declared.lexemes.Token.{Token}
 use Rattle.tokens.specs.declared.lexemes.Token.TheVariants.{Word as a_word, Sign as a_sign, Name as a_name, Number as a_number}
 use Rattle.tokens.specs.Tokens.{Lexeme, word, sign, name, number, Measured, Piece}
@@ -21,8 +21,11 @@ abbrev pub measured : Result (Token × ℕ) Cause → Measured
 measured (Ok t) = Ok (lexeme_of t.0, t.1)
 measured (Err e) = Err e
 
+abbrev pub Found : Type 0
+Found = Spanned Token
+
 abbrev pub piece_of : Found → Piece
-piece_of f = record { lexeme = lexeme_of f.token; place = f.place; end = f.end }
+piece_of f = record { lexeme = lexeme_of f.item; place = f.place; end = f.end }
 
 abbrev pub answered : Result (Option Found) Fault → Result (Option Piece) Fault
 answered (Ok None) = Ok None

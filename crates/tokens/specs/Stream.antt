@@ -1,7 +1,7 @@
 -- What the iterator over a text's tokens gives. Assumes nothing.
 use Rattle.std.specs.Prelude.{◌≡◌, length, Some, None, Ok, Err, Option, Result}
 use Rattle.tokens.specs.declared.fault.Fault.{Fault}
-use Rattle.tokens.specs.declared.lexemes.Found.{Found}
+use Rattle.tokens.specs.Answers.{Found}
 use Rattle.tokens.specs.declared.stream.Tokens.{Tokens}
 use Rattle.tokens.specs.Tokens.{next}
 use Rattle.tokens.specs.Answers.{piece_of}

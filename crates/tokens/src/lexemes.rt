@@ -43,10 +43,12 @@ pub enum Token<'a> {
     Number(&'a [u8], u32),
 }
 
-// A token, the place of its first byte, and the place behind its last.
+// Something of a text, the place of its first byte, and the place behind its last.
 #[derive(Debug, Clone, Copy, PartialEq, Eq, Drop)]
-pub struct Found<'a> {
-    pub token: Token<'a>,
+pub struct Spanned<T> {
+    pub item: T,
     pub place: usize,
     pub end: usize,
 }
+
+pub type Found<'a> = Spanned<Token<'a>>;

@@ -13,7 +13,7 @@ mod whole;
 
 pub use examples::worked_examples;
 pub use fault::{Cause, Fault};
-pub use lexemes::{Found, Sign, Token, Word};
+pub use lexemes::{Found, Sign, Spanned, Token, Word};
 pub use reader::next_token;
 pub use stream::Tokens;
 pub use whole::read;

@@ -6,7 +6,7 @@ ghost use Rattle.tokens.specs.Answers.{lexed, measured, answered};
 
 use crate::bytes::{digits_length, gaps_length, inner_length, is_letter};
 use crate::fault::{Cause, Fault};
-use crate::lexemes::{Found, Token};
+use crate::lexemes::{Found, Spanned, Token};
 use crate::numerals::{has_needless_zero, value_of};
 use crate::spellings::{kept_word, one_character, two_characters};
 
@@ -83,8 +83,8 @@ pub fn next_token(text: &[u8], from: usize) -> Result<Option<Found<'_>>, Fault>
         return Ok(None);
     }
     let (token, length) = front(bytes).map_err(|cause| Fault { cause, place })?;
-    Ok(Some(Found {
-        token,
+    Ok(Some(Spanned {
+        item: token,
         place,
         end: place + length,
     }))

@@ -1,7 +1,8 @@
 use Rattle.std.proofs.Common.{◌<◌, [], ◌∷◌, ◌++◌, length, take, Err, ap, ◌∙◌, rules, arith}
 use Rattle.std.proofs.lemmas.List.{take_more_set}
 use Rattle.std.proofs.lemmas.Result.{err_from_is_err_and}
-use Rattle.sheet.specs.Nodes.{shown}
+use Rattle.sheet.specs.declared.nodes.Kind.{Kind}
+use Rattle.sheet.specs.Nodes.{Node, shown}
 use Rattle.sheet.proofs.Turns.{at_end, at_fault, at_limit, at_token}
 use Rattle.sheet.proofs.Spelled.{all_told}
 use Rattle.sheet.proofs.filling.fill.Goals as goal
@@ -21,7 +22,8 @@ pub loop-found-preserved : goal.loop-found-preserved
 loop-found-preserved c =
     let below : c.loop-found.count < c.min-limit.result = search rules in
     let room : c.loop-found.count < length c.loop-found.nodes = omega arith in
-    let more = take_more_set c.loop-found.nodes c.loop-found.count c.into.result room ∙ ap (λ n. take c.loop-found.count c.loop-found.nodes ++ (n ∷ [])) c.into.ensures in
+    let node : Kind → Node = λ k. record { item = k; place = c.in_ok-found.found.place; end = c.in_ok-found.found.end } in
+    let more = take_more_set c.loop-found.nodes c.loop-found.count (node c.into.result) room ∙ ap (λ k. take c.loop-found.count c.loop-found.nodes ++ (node k ∷ [])) c.into.ensures in
     (search rules, search rules, at_token c.loop-found.found-iterator c.next.new.self c.next.result c.next.ensures.steps c.min-limit.result c.loop-found.count _ _ c.loop-found.invariant.2 c.in_ok-found.found _ more (search rules) below, search rules)
 
 pub returns : goal.returns

@@ -1,7 +1,7 @@
 use Rattle.std.proofs.Common.{rules, ◌≡◌, ◌∙◌, Ok, Some, None, drop, ◌+◌, length, sym, ap, subst, arith, length-drop}
 use Rattle.std.proofs.lemmas.List.Sums.{prefix_len-le-length}
 use Rattle.tokens.specs.Tokens.{gap, next}
-use Rattle.tokens.specs.declared.lexemes.Found.{Found}
+use Rattle.tokens.specs.Answers.{Found}
 use Rattle.tokens.specs.Answers.{measured, answered}
 use Rattle.tokens.specs.Laws.{First}
 use Rattle.tokens.proofs.Cuts.{next_first}
@@ -24,6 +24,6 @@ returns-then-is_empty-clause-first c =
 
 pub returns-clause-first : goal.returns-clause-first
 returns-clause-first c =
-    let found : Found = record { token = c.in_ok-token.token; place = c.args.from + c.gaps_length.result; end = c.args.from + c.gaps_length.result + c.in_ok-token.length } in
+    let found : Found = record { item = c.in_ok-token.token; place = c.args.from + c.gaps_length.result; end = c.args.from + c.gaps_length.result + c.in_ok-token.length } in
     let is : answered (Ok (Some found)) ≡ next c.args.text.now c.args.from = search rules in
     subst (First c.args.from (drop c.args.from c.args.text.now)) (sym is) (next_first c.args.text.now c.args.from)
