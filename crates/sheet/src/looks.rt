@@ -46,7 +46,7 @@ fn level_of(operator: Operator) -> u8
     }
 }
 
-// How tightly an operator binds there, and 0 where there is none: one number to compare with a level.
+// How tightly an operator binds there, 0 where there is none: one number to compare with a level.
 pub(crate) fn binding_at(nodes: &[Node], at: usize) -> u8
     ensures { result ≡ binding (kind_at nodes.now at) }
 {
