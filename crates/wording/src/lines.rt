@@ -6,7 +6,7 @@ ghost use Rattle.wording.specs.Pieces.{lines};
 use crate::pieces::first_line;
 
 // The lines of a text, one after another.
-#[derive(Drop)]
+#[derive(Clone, Debug, Drop)]
 pub struct Lines<'a> {
     rest: &'a [u8],
 }
