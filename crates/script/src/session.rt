@@ -46,7 +46,7 @@ pub(crate) fn context_of<C>(session: &Session<C>) -> Context
     }
 }
 
-// So many cells of whole(0).
+// So many cells of whole(0). Of `vec!` a proof knows clones alone, and no trait calls them equal.
 fn empty_store<N: Notation>(heap: Global, cells: usize) -> Result<Vec<N::Cell>, AllocError>
     ensures { IfOk result (λ v. v.items ≡ replicate cells (N.Reckoning.meaning.whole 0)) }
 {

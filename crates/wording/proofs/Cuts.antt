@@ -1,5 +1,5 @@
 -- Cutting at a byte, and lines by it. Assumes nothing.
-use Rattle.std.proofs.Common.{◌≡◌, ℕ, suc, ◌+◌, ◌<◌, ◌≤◌, Bool, true, false, eqb, List, [], ◌∷◌, length, take, drop, IfSome, Some, None, Option, sym, refl, ap, ◌∙◌, subst, arith, Bor}
+use Rattle.std.proofs.Common.{◌≡◌, ℕ, suc, ◌+◌, ◌<◌, Bool, true, false, eqb, List, [], ◌∷◌, length, take, drop, IfSome, Some, None, Option, sym, refl, ap, ◌∙◌, subst, arith, Bor}
 use Rattle.std.specs.Bool.{◌==◌}
 use Rattle.std.specs.List.{position, position_from}
 use Rattle.std.specs.Option.{option_map, unwrap_or}
@@ -81,16 +81,3 @@ last_line (b ∷ bs) e h = lines_cut (b ∷ bs) ∙ ap (lines_at (b ∷ bs)) e
 pub first_of : (t rest : Bor (List ℕ)) (o : Option (Bor (List ℕ) × Bor (List ℕ))) → 0 < length t.now → rest.now ≡ [] → held o ≡ cut 10 t.now → IsFirst t.now (unwrap_or o (t, rest))
 first_of t rest (Some p) h z e = (lines_cut t.now ∙ ap (lines_at t.now) (sym e), subst (Shorter t.now) (sym e) (shorter_cut 10 t.now))
 first_of t rest None h z e = rw z (last_line t.now (sym e) h, h)
-
-few_begun : (b : ℕ) (ls : List (List ℕ)) → length (begin b ls) ≤ length ls + 1
-few_begun b [] = omega arith
-few_begun b (l ∷ ls) = omega arith
-
--- there are no more lines than bytes
-pub few_lines : (t : List ℕ) → length (lines t) ≤ length t
-few_lines [] = omega arith
-few_lines (b ∷ bs) = by (eqb b 10) refl (few_lines bs)
-  where
-    by : (v : Bool) → eqb b 10 ≡ v → length (lines bs) ≤ length bs → length (lines (b ∷ bs)) ≤ length (b ∷ bs)
-    by true e h = rw e (omega arith)
-    by false e h = rw e (omega (arith, few_begun b (lines bs)))

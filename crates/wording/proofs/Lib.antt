@@ -1,4 +1,5 @@
 pub mod Cuts
+pub mod FewLines
 pub mod Spans
 pub mod Counting
 pub mod Places

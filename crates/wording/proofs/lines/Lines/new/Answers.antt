@@ -1,4 +1,4 @@
-use Rattle.wording.proofs.Cuts.{few_lines}
+use Rattle.wording.proofs.FewLines.{few_lines}
 use Rattle.wording.proofs.lines.Lines.new.Goals as goal
 
 pub returns-clause-few : goal.returns-clause-few
