@@ -4,7 +4,7 @@ use commands::Cause;
 use std::fmt;
 
 // The first line that cannot be carried out, from 1, and what is wrong with it.
-#[derive(Clone, Copy, Drop)]
+#[derive(Clone, Copy, Debug, PartialEq, Eq, Drop)]
 pub struct Fault {
     pub line: usize,
     pub cause: Cause,

@@ -17,7 +17,7 @@ use std::iter::Enumerate;
 use wording::Lines;
 
 // What a script prints, up to the first line that cannot be carried out, and what is wrong with that line.
-#[derive(Drop)]
+#[derive(Debug, PartialEq, Eq, Drop)]
 pub struct Transcript {
     pub output: String,
     pub fault: Option<Fault>,
