@@ -21,10 +21,7 @@ fn number_of(name: &[u8]) -> Result<u8, Cause>
 fn after_at(word: &[u8]) -> Option<&[u8]>
     ensures { option_map (λ x. x.now) result ≡ after_at word.now }
 {
-    match word {
-        [b'@', place @ ..] => Some(place),
-        _ => None,
-    }
+    word.strip_prefix(b"@")
 }
 
 // The word of an instruction's number and an operand.

@@ -1,14 +1,13 @@
 -- Numbers read with a cap. Assumes nothing.
-use Rattle.std.proofs.Common.{◌≡◌, ℕ, ◌+◌, ◌-◌, ◌*◌, ◌<◌, ◌≤◌, Bool, true, false, cond, ◌&&◌, List, [], ◌∷◌, length, get_or, take, drop, ℤ, Some, None, Ok, Err, Option, Result, int_le, OkIff, sym, refl, ap, ◌∙◌, ⊎_elim, arith, w64, SFits, eq-eqb}
+use Rattle.std.proofs.Common.{◌≡◌, ℕ, ◌+◌, ◌-◌, ◌*◌, ◌<◌, ◌≤◌, Bool, true, false, cond, ◌&&◌, List, [], ◌∷◌, ℤ, Some, None, Ok, Err, Option, Result, int_le, OkIff, refl, ap, ◌∙◌, ⊎_elim, arith, w64, SFits}
 use mir.Syntax.{w128}
 use Rattle.std.proofs.lemmas.Int.{ints}
 use Rattle.std.proofs.lemmas.Bool.{cases_lt}
 use Rattle.std.proofs.lemmas.Bool.Decides.{nat_tests}
 use Rattle.std.specs.Option.{option_map}
-use Rattle.std.proofs.lemmas.List.{take_rest}
 use Rattle.wording.specs.declared.numerals.Misread.{Misread}
 use Rattle.wording.specs.declared.numerals.Misread.TheVariants.{OutOfRange}
-use Rattle.wording.specs.Numerals.{digit, digits_after, minus, unsigned, signed, read_within}
+use Rattle.wording.specs.Numerals.{digit, digits_after, signed, read_within}
 use Rattle.wording.specs.Caps.{cap, capped}
 use Rattle.wording.specs.Conversions.{converted, IsConverted}
 
@@ -23,10 +22,6 @@ same_cap (b ∷ bs) m n e = by (digit b) refl (same_cap bs (10 * m + (b - 48)) (
     by : (v : Bool) → digit b ≡ v → capped (digits_after (10 * m + (b - 48)) bs) ≡ capped (digits_after (10 * n + (b - 48)) bs) → capped (digits_after m (b ∷ bs)) ≡ capped (digits_after n (b ∷ bs))
     by true f h = rw f h
     by false f h = rw f refl
-
-pub minus_front : (t : List ℕ) → 0 < length t → get_or t 0 0 ≡ 45 → (true ≡ minus t) × (take (length t - 1) (drop 1 t) ≡ unsigned t)
-minus_front [] h e = absurd (omega arith)
-minus_front (b ∷ bs) h e = (sym (eq-eqb b 45 e), rw (eq-eqb b 45 e) (take_rest (b ∷ bs) 1))
 
 -- a number that is cut off lies outside, cut off or not
 outside : (negative : Bool) (m : ℕ) (low high : ℤ) → SFits w64 low → SFits w64 high → 18446744073709551615 ≤ m → (int_le low (signed negative m) && int_le (signed negative m) high) ≡ false

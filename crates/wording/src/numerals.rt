@@ -31,9 +31,9 @@ fn digits(text: &[u8]) -> Option<u64>
 fn sign(text: &[u8]) -> (bool, &[u8])
     ensures { (result.0 ≡ minus text.now) × (result.1.now ≡ unsigned text.now) }
 {
-    match text {
-        [b'-', rest @ ..] => (true, rest),
-        _ => (false, text),
+    match text.strip_prefix(b"-") {
+        Some(rest) => (true, rest),
+        None => (false, text),
     }
 }
 

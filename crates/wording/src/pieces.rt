@@ -25,15 +25,15 @@ pub fn first_line(text: &[u8]) -> Option<(&[u8], &[u8])>
 pub fn first_word(line: &[u8]) -> Option<(&[u8], &[u8])>
     ensures { words line.now ≡ with_rest words (held result) }
 {
-    let line = line.trim_ascii_start();
-    if line.is_empty() {
+    let rest = line.trim_ascii_start();
+    if rest.is_empty() {
         return None;
     }
-    let end = line
+    let end = rest
         .iter()
         .position(u8::is_ascii_whitespace)
-        .unwrap_or(line.len());
-    Some(line.split_at(end))
+        .unwrap_or(rest.len());
+    Some(rest.split_at(end))
 }
 
 // Whether a word is this name.

@@ -1,7 +1,7 @@
 use Rattle.std.proofs.Common.{◌≡◌, refl, rules, arith}
 use Rattle.std.specs.Prelude.{codes}
 use Rattle.std.proofs.lemmas.Slice.Eq.{text_from_reads}
-use Rattle.commands.proofs.Marks.{no_word}
+use Rattle.commands.proofs.Names.{no_word}
 use Rattle.commands.proofs.reading.outside.Goals as goal
 
 pub returns-in_ok-store_size-in-store : goal.returns-in_ok-store_size-in-store

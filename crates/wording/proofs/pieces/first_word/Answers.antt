@@ -9,12 +9,12 @@ use Rattle.wording.proofs.pieces.first_word.Goals as goal
 
 pub returns-then-is_empty : goal.returns-then-is_empty
 returns-then-is_empty c =
-    let line = c.trim_ascii_start-line.result.now in
-    words_trimmed c.args.line.now line c.trim_ascii_start-line.ensures.value ∙ ap words (nil_from_length line (search rules))
+    let rest = c.trim_ascii_start-rest.result.now in
+    words_trimmed c.args.line.now rest c.trim_ascii_start-rest.ensures.value ∙ ap words (nil_from_length rest (search rules))
 
 pub returns : goal.returns
 returns c =
-    let line = c.trim_ascii_start-line.result.now in
+    let rest = c.trim_ascii_start-rest.result.now in
     let at = position_from_yields_List is_ascii_whitespace _ _ _ c.position.ensures.ran (YieldsList-from_slice _ c.iter.ensures.rest) (λ x b q k. search (rules, tests)) in
-    let end = or_all line c.unwrap_or-end.result c.position.result at c.unwrap_or-end.ensures in
-    rw (c.split_at.ensures.front, c.split_at.ensures.back) (words_cut c.args.line.now line c.unwrap_or-end.result c.trim_ascii_start-line.ensures.value (search rules) end)
+    let end = or_all rest c.unwrap_or-end.result c.position.result at c.unwrap_or-end.ensures in
+    rw (c.split_at.ensures.front, c.split_at.ensures.back) (words_cut c.args.line.now rest c.unwrap_or-end.result c.trim_ascii_start-rest.ensures.value (search rules) end)
