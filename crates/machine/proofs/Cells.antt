@@ -1,43 +1,21 @@
 -- Cells of the store at signed addresses. Assumes nothing.
-use Rattle.std.proofs.Common.{◌≡◌, ℕ, ◌+◌, ◌<◌, ◌≤◌, true, false, ltb, ◌≢◌, ◌⊎◌, List, length, get_or, set, ℤ, pos, negsuc, ◌+ℤ◌, ◌-ℤ◌, nat_abs, Some, Ok, Err, sym, refl, ap, ◌∙◌, inl, inr, ⊎_elim, arith, length-set, get_or-set_other, get_or-set_same, le-ltb, lt-ltb, le-leb}
+use Rattle.std.proofs.Common.{◌≡◌, ℕ, zero, suc, ◌+◌, ◌<◌, ◌≤◌, true, false, ltb, ◌≢◌, ◌⊎◌, List, length, get_or, set, ℤ, pos, negsuc, ◌+ℤ◌, ◌-ℤ◌, nat_abs, Some, None, Option, Ok, Err, Result, cond, ◌&&◌, Bool, nat_lt, slice_set, sym, refl, ap, ◌∙◌, inl, inr, ⊎_elim, arith, length-set, get_or-set_other, get_or-set_same, le-ltb, lt-ltb, le-leb, w32, SFits}
 use borrow.Author.Tests.{apart_eqb}
 use lib.Signed.{le_z}
 use Rattle.std.specs.Option.{ok_or}
-use Rattle.std.proofs.lemmas.Option.{slice_get_read, slice_get_past, slice_get-get_or}
+use Rattle.std.specs.List.{slice_get}
+use Rattle.std.proofs.lemmas.Option.{slice_get_past, slice_get-get_or}
 use Rattle.std.proofs.lemmas.Int.{ints}
 use Rattle.std.proofs.str.Laws.{order}
-use Rattle.reckoning.specs.Meaning.{Meaning}
 use Rattle.instructions.specs.declared.Stop.{Stop}
 use Rattle.instructions.specs.declared.Stop.TheVariants.{Broken}
-use Rattle.machine.specs.Instructions.{whole, cell, read_after, natural, tops, cleared, clear}
+use Rattle.machine.specs.Instructions.{◌>>=◌, register, cell, put, read_after, natural, tops, pushed, cleared, clear}
 use Rattle.machine.specs.Seen.{after}
 
--- the cell of a number, if it is one that every reckoning has a cell for
-module _ {Cell : Type 0} (m : Meaning Cell) where
-  pub whole_inside : (n : ℤ) (x : Cell) → le_z (pos 0) n ≡ true → le_z n (pos 16383) ≡ true → x ≡ m.whole (nat_abs n) → Ok x ≡ whole m n
-  whole_inside (pos n) x low high is = rw high (ap Ok is)
-  whole_inside (negsuc n) x low high is = cc
-
-  pub whole_past : (n : ℤ) → le_z n (pos 16383) ≡ false → Err Broken ≡ whole m n
-  whole_past (pos n) past = rw past
-  whole_past (negsuc n) past = refl
-
-  pub whole_before : (n : ℤ) → le_z (pos 0) n ≡ false → Err Broken ≡ whole m n
-  whole_before (pos n) low = grind (arith, ints)
-  whole_before (negsuc n) low = refl
-
 module _ {Cell : Type 0} (s : List Cell) where
-  pub cell_inside : (at : ℤ) (x : Cell) → le_z (pos 0) at ≡ true → nat_abs at < length s → x ≡ get_or s (nat_abs at) x → Ok x ≡ cell s at
-  cell_inside (pos a) x high low is = sym (ap (λ o. ok_or o Broken) (slice_get_read s (length s) a x refl low is))
-  cell_inside (negsuc a) x high low is = cc
-
   pub cell_past : (at : ℤ) → le_z (pos 0) at ≡ true → length s ≤ nat_abs at → Err Broken ≡ cell s at
   cell_past (pos a) high past = sym (ap (λ o. ok_or o Broken) (slice_get_past s a past))
   cell_past (negsuc a) high past = refl
-
-  pub cell_before : (at : ℤ) → le_z (pos 0) at ≡ false → Err Broken ≡ cell s at
-  cell_before (pos a) low = grind (arith, ints)
-  cell_before (negsuc a) low = refl
 
   -- there is a cell at i, or i is past the store
   pub inside_or_past : (i : ℕ) (d : Cell) → ((x : Cell) × (cell s (pos i) ≡ Ok x) × (ltb i (length s) ≡ true) × (i < length s)) ⊎ ((cell s (pos i) ≡ Err Broken) × (ltb i (length s) ≡ false))
@@ -86,23 +64,44 @@ module _ {Cell : Type 0} (s : List Cell) where
   unfolding clear
   clear_done c t below a k some at fits is = rw (apart_eqb k 0 some, at, le-leb (a + k) (length s) fits) (ap (λ u. (Ok tt, u)) is)
 
-  natural_is : (z : ℤ) (b : ℕ) → natural z ≡ Ok b → z ≡ pos b
-  natural_is (pos n) b is = cc
-  natural_is (negsuc n) b is = cc
+  broken_first : (o : Option Cell) → ◌≡◌ {A = Result (ℤ × Cell × Cell) Stop} (Err Broken) (ok_or o Broken >>= λ c. Err Broken)
+  broken_first (Some c) = refl
+  broken_first None = refl
 
-  top_is : (sp : ℤ) (b : ℕ) → natural (sp -ℤ pos 1) ≡ Ok b → sp ≡ pos (b + 1)
-  top_is sp b is = let below = natural_is (sp -ℤ pos 1) b is in omega (arith, ints)
-
-  cell_at : (a : ℕ) (x : Cell) → a < length s → x ≡ get_or s a x → cell s (pos a) ≡ Ok x
-  cell_at a x low is = ap (λ o. ok_or o Broken) (slice_get_read s (length s) a x refl low is)
-
-  pub tops_inside : (sp : ℤ) (b : ℕ) (x y : Cell) → natural (sp -ℤ pos 1) ≡ Ok b → b + 1 < length s → x ≡ get_or s b x → y ≡ get_or s (b + 1) y → Ok (pos b, x, y) ≡ tops s sp
+  -- the two topmost cells, by an address at a time
+  pub tops_by : (sp : ℤ) → SFits w32 sp → tops s sp ≡ (cell s sp >>= λ right. register (sp -ℤ pos 1) >>= λ below. cell s below >>= λ left. Ok (below, left, right))
   unfolding tops
-  tops_inside sp b x y below high left right =
-      rw (below, top_is sp b below, cell_at (b + 1) y high right, cell_at b x (omega arith) left)
+  tops_by (pos zero) f = broken_first (slice_get s 0)
+  tops_by (pos (suc n)) f =
+      let below : pos (suc n) -ℤ pos 1 ≡ pos n = omega (arith, ints) in
+      let fits : register (pos n) ≡ Ok (pos n) = rw (le-leb n 2147483647 (omega (arith, f.sfits))) refl in
+      rw (below, fits)
+  tops_by (negsuc n) f = refl
 
-  pub tops_past : (sp : ℤ) (b : ℕ) → natural (sp -ℤ pos 1) ≡ Ok b → length s ≤ b + 1 → Err Broken ≡ tops s sp
-  unfolding tops
-  tops_past sp b below past =
-      let none : cell s (pos (b + 1)) ≡ Err Broken = ap (λ o. ok_or o Broken) (slice_get_past s (b + 1) past) in
-      rw (below, top_is sp b below, none)
+  abbrev topped : Result ℤ Stop → List Cell → Result (ℤ × List Cell) Stop
+  topped a t = a >>= λ top. Ok (top, t)
+
+  abbrev placed : Cell → Result ℤ Stop → Result (ℤ × List Cell) Stop
+  placed c a = a >>= λ top. put s top c >>= topped (Ok top)
+
+  put_first : (b : Bool) (t : List Cell) → (cond b (Ok t) (Err Broken) >>= topped (Err Broken)) ≡ Err Broken
+  put_first true t = refl
+  put_first false t = refl
+
+  -- the cell at n is written before n is known to be an address, or after
+  pushed_at : (c : Cell) (n : ℕ) (b : Bool) → (put s (pos n) c >>= topped (cond b (Ok (pos n)) (Err Broken))) ≡ placed c (cond b (Ok (pos n)) (Err Broken))
+  pushed_at c n true = refl
+  pushed_at c n false = put_first (nat_lt n (length s)) (slice_set s n c)
+
+  before : (c : Cell) (n : ℕ) (b : Bool) → placed c (cond b (Ok (negsuc n)) (Err Broken)) ≡ Err Broken
+  before c n true = refl
+  before c n false = refl
+
+  -- a cell on top of the stack, by its address
+  pub pushed_by : (c : Cell) (sp : ℤ) → pushed c s sp ≡ (register (sp +ℤ pos 1) >>= λ top. put s top c >>= λ t. Ok (top, t))
+  unfolding pushed
+  pushed_by c (pos n) = pushed_at c (n + 1) (le_z (negsuc 2147483647) (pos (n + 1)) && le_z (pos (n + 1)) (pos 2147483647))
+  pushed_by c (negsuc zero) = refl
+  pushed_by c (negsuc (suc n)) =
+      let below : negsuc (suc n) +ℤ pos 1 ≡ negsuc n = omega (arith, ints) in
+      rw below (sym (before c n (le_z (negsuc 2147483647) (negsuc n) && le_z (negsuc n) (pos 2147483647))))

@@ -5,8 +5,7 @@ ghost use Rattle.machine.specs.Instructions.{push, relative, load, store_top, po
 ghost use Rattle.machine.specs.Seen.{after};
 
 use crate::memory::{
-    cell_of, clear, lowered, number_of, raised, read, reckoned, top_two, write, write_above,
-    write_three,
+    cell_of, clear, lowered, number_of, raised, read, top_two, write, write_above, write_three,
 };
 use crate::state::Registers;
 use instructions::Stop;
@@ -69,7 +68,7 @@ pub(crate) fn binary<R: Reckoning>(
     ensures { (result, (r.new, store.new)) ≡ after (r.old, store.old) (binary R.Reckoning.meaning operator r.old store.old) }
 {
     let (sp, left, right) = top_two(store, r.sp)?;
-    let c = reckoned(operate::<R>(operator, left, right))?;
+    let c = operate::<R>(operator, left, right)?;
     write(store, sp, c)?;
     r.sp = sp;
     Ok(())
@@ -79,7 +78,7 @@ pub(crate) fn negate<R: Reckoning>(r: &mut Registers, store: &mut [R::Cell]) -> 
     ensures { (result, (r.new, store.new)) ≡ after (r.old, store.old) (negate R.Reckoning.meaning r.old store.old) }
 {
     let top = read(store, r.sp)?;
-    let c = reckoned(R::negate(top))?;
+    let c = R::negate(top)?;
     write(store, r.sp, c)
 }
 
@@ -87,18 +86,15 @@ pub(crate) fn invert<R: Reckoning>(r: &mut Registers, store: &mut [R::Cell]) -> 
     ensures { (result, (r.new, store.new)) ≡ after (r.old, store.old) (invert R.Reckoning.meaning r.old store.old) }
 {
     let top = read(store, r.sp)?;
-    let nonzero = reckoned(R::test(top))?;
-    let c = R::whole(if nonzero { 0 } else { 1 });
+    let nonzero = R::test(top)?;
+    let c = R::whole(u16::from(!nonzero));
     write(store, r.sp, c)
 }
 
 fn spend(budget: &mut u32) -> Result<(), Stop>
     ensures { (result, budget.new) ≡ after budget.old (spent budget.old) }
 {
-    if *budget == 0 {
-        return Err(Stop::Budget);
-    }
-    *budget -= 1;
+    *budget = budget.checked_sub(1).ok_or(Stop::Budget)?;
     Ok(())
 }
 
@@ -125,7 +121,7 @@ pub(crate) fn branch<R: Reckoning>(
 {
     let top = read(store, r.sp)?;
     let sp = lowered(r.sp, 1)?;
-    let nonzero = reckoned(R::test(top))?;
+    let nonzero = R::test(top)?;
     if !nonzero {
         pay_jump(to, r.pc, &mut r.budget)?;
         r.pc = to;
@@ -159,11 +155,7 @@ fn admit(active: u32, budget: &mut u32) -> Result<(), Stop>
 fn retire(active: u32) -> Result<u32, Stop>
     ensures { result ≡ fewer active }
 {
-    if active == 0 {
-        Err(Stop::Broken)
-    } else {
-        Ok(active - 1)
-    }
+    active.checked_sub(1).ok_or(Stop::Broken)
 }
 
 // The number that was saved so many cells below the frame pointer.
@@ -179,13 +171,11 @@ fn saved<R: Reckoning>(store: &[R::Cell], fp: i32, below: i32) -> Result<i32, St
 fn read_after<C: Copy>(store: &[C], at: i32, value: C, address: i32) -> Result<C, Stop>
     ensures { result ≡ read_after store.now at value address }
 {
-    match read(store, at) {
-        Err(stop) => Err(stop),
-        Ok(_) => if address == at {
-            Ok(value)
-        } else {
-            read(store, address)
-        },
+    read(store, at)?;
+    if address == at {
+        Ok(value)
+    } else {
+        read(store, address)
     }
 }
 
@@ -207,9 +197,9 @@ fn link<R: Reckoning>(
         pc,
         sp,
         fp,
-        ep: r.ep,
         active: r.active + 1,
         budget,
+        ..*r
     };
     Ok(())
 }
@@ -234,7 +224,7 @@ pub(crate) fn enter<C>(q: i32, r: &mut Registers, store: &[C]) -> Result<(), Sto
         return Err(Stop::Broken);
     }
     let ep = raised(r.sp, q)?;
-    if ep >= 0 && (ep as usize) >= store.len() {
+    if usize::try_from(ep).is_ok_and(|ep| ep >= store.len()) {
         return Err(Stop::Cells);
     }
     r.ep = ep;
@@ -248,11 +238,9 @@ pub(crate) fn allocate<R: Reckoning>(
 ) -> Result<(), Stop>
     ensures { (result, (r.new, store.new)) ≡ after (r.old, store.old) (allocate R.Reckoning.meaning k r.old store.old) }
 {
-    if k < 0 {
-        return Err(Stop::Broken);
-    }
+    let count = u32::try_from(k).map_err(|_| Stop::Broken)?;
     let sp = raised(r.sp, k)?;
-    clear(store, r.sp, k as u32, R::whole(0))?;
+    clear(store, r.sp, count, R::whole(0))?;
     r.sp = sp;
     Ok(())
 }
@@ -271,7 +259,7 @@ pub(crate) fn leave<R: Reckoning>(r: &mut Registers, store: &[R::Cell]) -> Resul
         fp,
         ep,
         active,
-        budget: r.budget,
+        ..*r
     };
     Ok(())
 }
@@ -280,12 +268,9 @@ pub(crate) fn check<R: Reckoning>(n: i32, r: &Registers, store: &[R::Cell]) -> R
     ensures { (result, r.now) ≡ after r.now (check R.Reckoning.meaning n r.now store.now) }
 {
     let top = read(store, r.sp)?;
-    match R::place(top) {
-        Some(i) => if (i as i32) < n {
-            Ok(())
-        } else {
-            Err(Stop::Index)
-        },
-        None => Err(Stop::Index),
+    if R::place(top).is_some_and(|i| i32::from(i) < n) {
+        Ok(())
+    } else {
+        Err(Stop::Index)
     }
 }
