@@ -30,13 +30,10 @@ pub(crate) fn scaled(number: i32, factor: i32, divisor: i32) -> i64
 
 // The number in 32 bits, if it lies from low to high. It is an Option, of which each operation makes its own
 // answer: so compiled, the range is one branch, where a shared Result is packed into a word and taken apart again.
-// The test is not i32::try_from: with that, a run of the machine takes a twentieth more instructions.
 pub(crate) fn narrow(number: i64, low: i32, high: i32) -> Option<i32>
     ensures { elim result [ Some n ↦ (n ≡ number) × (within low high number ≡ true) | None ↦ within low high number ≡ false ] }
 {
-    if number >= i64::from(low) && number <= i64::from(high) {
-        Some(number as i32)
-    } else {
-        None
-    }
+    i32::try_from(number)
+        .ok()
+        .filter(|number| (low..=high).contains(number))
 }
