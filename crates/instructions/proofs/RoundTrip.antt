@@ -69,9 +69,6 @@ word_by i true w fits is =
     subst (λ v. decoded v ≡ Some i) same (decoded_at i (number i) (low_bits (operand i)) refl back.1 back.0)
 word_by i false w fits is = cc
 
-pub encoded_is : (i : Instruction) (w : ℕ) → short (operand i) ≡ true → w ≡ 16777216 * number i + low_bits (operand i) → Some w ≡ encoded i
-encoded_is i w fits is = rw fits (ap Some is)
-
 pub ok_some : {X E : Type 0} (o : Option X) (e : E) (x : X) → ok_or o e ≡ Ok x → o ≡ Some x
 ok_some (Some y) e x is = cc
 ok_some None e x is = cc

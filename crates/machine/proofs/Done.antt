@@ -1,5 +1,6 @@
 -- What an instruction comes to once none of its parts stops. Assumes nothing.
-use Rattle.std.proofs.Common.{◌≡◌, ℕ, ◌+◌, ◌-◌, ◌/◌, ◌%◌, ◌≤◌, List, length, set, ℤ, pos, ◌+ℤ◌, Some, None, Ok, Err, Option, Result, sym, ap, ◌∙◌, arith, lt-ltb}
+use Rattle.std.proofs.Common.{◌≡◌, ℕ, zero, suc, ◌+◌, ◌-◌, ◌/◌, ◌%◌, ◌≤◌, List, [], ◌∷◌, length, set, ℤ, pos, ◌+ℤ◌, Some, None, Ok, Err, Option, Result, sym, refl, ap, ◌∙◌, arith, lt-ltb}
+use borrow.Rule.Slice.PartMut.{put_mid}
 use Rattle.reckoning.specs.Meaning.{Meaning}
 use Rattle.instructions.specs.declared.Stop.{Stop}
 use Rattle.instructions.specs.Words.{signed}
@@ -18,6 +19,16 @@ ends t u x is = sym (ap (after t) is)
 pub three_done : {Cell : Type 0} (s : List Cell) (below : ℤ) (a : ℕ) (x y z : Cell) → Ok a ≡ natural (below +ℤ pos 1) → 3 ≤ length s → a ≤ length s - 3 → (Ok tt, set (set (set s a x) (a + 1) y) (a + 2) z) ≡ after s (three s below x y z)
 three_done s below a x y z at long inside =
     ends s _ (three s below x y z) (next (natural (below +ℤ pos 1)) _ a _ at (rw (lt-ltb (a + 2) (length s) (omega arith))))
+
+pub three_set : {Cell : Type 0} (s : List Cell) (a : ℕ) (x y z : Cell) → a + 3 ≤ length s → put_mid a 3 s (x ∷ y ∷ z ∷ []) ≡ set (set (set s a x) (a + 1) y) (a + 2) z
+three_set (p ∷ q ∷ r ∷ s) zero x y z inside = refl
+three_set (p ∷ s) (suc a) x y z inside =
+    let one : suc a + 1 ≡ suc (a + 1) = omega arith in
+    let two : suc a + 2 ≡ suc (a + 2) = omega arith in
+    rw (one, two) (ap (λ t. p ∷ t) (three_set s a x y z (omega arith)))
+three_set [] a x y z inside = absurd (omega arith)
+three_set (p ∷ []) zero x y z inside = absurd (omega arith)
+three_set (p ∷ q ∷ []) zero x y z inside = absurd (omega arith)
 
 module _ {Cell : Type 0} (m : Meaning Cell) (r : Registers) (s : List Cell) where
   -- a cycle does what the instruction does that it fetches; where that ends the run, the program counter is put back

@@ -93,9 +93,7 @@ pub(crate) fn write_three<C: Copy>(
     if store.len() < 3 || first > store.len() - 3 {
         return Err(Stop::Broken);
     }
-    store[first] = x;
-    store[first + 1] = y;
-    store[first + 2] = z;
+    store[first..first + 3].copy_from_slice(&[x, y, z]);
     Ok(())
 }
 
