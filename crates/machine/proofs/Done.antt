@@ -20,6 +20,7 @@ pub three_done : {Cell : Type 0} (s : List Cell) (below : ℤ) (a : ℕ) (x y z 
 three_done s below a x y z at long inside =
     ends s _ (three s below x y z) (next (natural (below +ℤ pos 1)) _ a _ at (rw (lt-ltb (a + 2) (length s) (omega arith))))
 
+-- three cells written at once are three writes
 pub three_set : {Cell : Type 0} (s : List Cell) (a : ℕ) (x y z : Cell) → a + 3 ≤ length s → put_mid a 3 s (x ∷ y ∷ z ∷ []) ≡ set (set (set s a x) (a + 1) y) (a + 2) z
 three_set (p ∷ q ∷ r ∷ s) zero x y z inside = refl
 three_set (p ∷ s) (suc a) x y z inside =
