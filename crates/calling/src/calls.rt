@@ -5,7 +5,7 @@ use machine::{Registers, Stopped, run};
 use reckoning::Reckoning;
 
 // What a call of a function comes to: its value, or a stop at a place of the text; and the units that it spent.
-#[derive(Clone, Copy)]
+#[derive(Clone, Copy, Debug, PartialEq, Eq)]
 pub struct Answer<C> {
     pub value: Result<C, Stopped>,
     pub spent: u32,

@@ -18,7 +18,7 @@ pub enum Chosen {
 }
 
 // What a line says.
-#[derive(Drop)]
+#[derive(Clone, Copy, Debug, PartialEq, Eq, Drop)]
 pub enum Command<C> {
     Nothing,
     // so many cells
@@ -37,7 +37,7 @@ pub enum Command<C> {
 }
 
 // What a line is read by: whether it stands in a listing, how many cells the store has, and the registers.
-#[derive(Clone, Copy, Drop)]
+#[derive(Clone, Copy, Debug, PartialEq, Eq, Drop)]
 pub struct Context {
     pub listing: bool,
     pub cells: usize,
