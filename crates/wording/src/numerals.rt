@@ -1,4 +1,5 @@
-ghost use Rattle.std.specs.Prelude.{◌≡◌, true, false, IfOk, string_bytes};
+ghost use Rattle.std.specs.Prelude.{◌≡◌, ℕ, true, false, IfOk, string_bytes, Option};
+ghost use Rattle.std.specs.Fn.{FnReturnsAt};
 ghost use Rattle.std.specs.Option.{option_map};
 ghost use Rattle.wording.specs.Numerals.{digits, minus, unsigned, signed, integer, fraction, scaled, thousandths, read_within, read_below, thousandths_written};
 ghost use Rattle.wording.specs.Caps.{capped};
@@ -27,29 +28,22 @@ fn digits(text: &[u8]) -> Option<u64>
     })
 }
 
-// Whether there is a minus sign, and what follows it.
-fn sign(text: &[u8]) -> (bool, &[u8])
-    ensures { (result.0 ≡ minus text.now) × (result.1.now ≡ unsigned text.now) }
+// A number with a minus sign in front or none, by what says the magnitude of the digits behind it.
+fn signed<F: Fn(&[u8]) -> Option<u64>>(text: &[u8], magnitude: F) -> Option<i128>
+    requires { F.IsAlwaysCallable magnitude }
+    ensures { (o : Option ℕ) × FnReturnsAt F.Fn magnitude (unsigned text.now) o × (result ≡ option_map (signed (minus text.now)) o) }
 {
     match text.strip_prefix(b"-") {
-        Some(rest) => (true, rest),
-        None => (false, text),
+        Some(text) => magnitude(text).map(|n| -i128::from(n)),
+        None => magnitude(text).map(i128::from),
     }
-}
-
-fn signed(negative: bool, magnitude: u64) -> i128
-    ensures { result ≡ signed negative magnitude }
-{
-    let magnitude = i128::from(magnitude);
-    if negative { -magnitude } else { magnitude }
 }
 
 // The whole number that a word stands for, with a magnitude cut off at 64 bits.
 fn integer(text: &[u8]) -> Option<i128>
     ensures { result ≡ option_map (signed (minus text.now)) (capped (digits (unsigned text.now))) }
 {
-    let (negative, text) = sign(text);
-    digits(text).map(|magnitude| signed(negative, magnitude))
+    signed(text, digits)
 }
 
 // The number, if it lies from `low` to `high`, in the type of the answer.
@@ -109,8 +103,7 @@ fn scaled(text: &[u8]) -> Option<u64>
 fn thousandths(text: &[u8]) -> Option<i128>
     ensures { result ≡ option_map (signed (minus text.now)) (capped (scaled (unsigned text.now))) }
 {
-    let (negative, text) = sign(text);
-    scaled(text).map(|magnitude| signed(negative, magnitude))
+    signed(text, scaled)
 }
 
 // The thousandths of a number with up to three digits after the point, if they are in the range.
