@@ -4,7 +4,6 @@ use borrow.Rule.Slice.PartMut.{put_mid}
 use Rattle.reckoning.specs.Meaning.{Meaning}
 use Rattle.instructions.specs.declared.Stop.{Stop}
 use Rattle.instructions.specs.Words.{signed}
-use Rattle.machine.specs.declared.state.Flow.TheVariants.{Onward, Halts}
 use Rattle.machine.specs.declared.state.Registers.{Registers}
 use Rattle.machine.specs.Instructions.{State, ◌>>=◌, register, cell, natural, with_pc, three}
 use Rattle.machine.specs.Seen.{after, flowed}
@@ -37,26 +36,10 @@ module _ {Cell : Type 0} (m : Meaning Cell) (r : Registers) (s : List Cell) wher
     acts : act m code r s ≡ perform m (w / 16777216) z (with_pc pc r) s
     acts = next (cell code r.pc) _ w (perform m (w / 16777216) z (with_pc pc r) s) fetched (next (register (r.pc +ℤ pos 1)) _ pc (perform m (w / 16777216) z (with_pc pc r) s) raised (ap (λ y. perform m (w / 16777216) y (with_pc pc r) s) (sym operand)))
 
-    onward_from : (u : State Cell) (x : Result (Option (State Cell)) Stop) → (Ok Onward, u) ≡ flowed (with_pc pc r, s) x → (Ok Onward, u) ≡ flowed (r, s) x
-    onward_from u (Ok (Some v)) is = is
-    onward_from u (Ok None) is = let first = ap (λ p. p.0) is in cc
-    onward_from u (Err e) is = let first = ap (λ p. p.0) is in cc
-
-    halts_from : (q : Registers) (t : List Cell) (x : Result (Option (State Cell)) Stop) → (Ok Halts, (q, t)) ≡ flowed (with_pc pc r, s) x → (Ok Halts, (with_pc r.pc q, t)) ≡ flowed (r, s) x
-    halts_from q t (Ok (Some v)) is = let first = ap (λ p. p.0) is in cc
-    halts_from q t (Ok None) is = ap (λ p. (p.0, (with_pc r.pc p.1.0, p.1.1))) is
-    halts_from q t (Err e) is = let first = ap (λ p. p.0) is in cc
-
     stops_from : (q : Registers) (t : List Cell) (e : Stop) (x : Result (Option (State Cell)) Stop) → (Err e, (q, t)) ≡ flowed (with_pc pc r, s) x → (Err e, (with_pc r.pc q, t)) ≡ flowed (r, s) x
     stops_from q t e (Ok (Some v)) is = let first = ap (λ p. p.0) is in cc
     stops_from q t e (Ok None) is = let first = ap (λ p. p.0) is in cc
     stops_from q t e (Err d) is = ap (λ p. (p.0, (with_pc r.pc p.1.0, p.1.1))) is
-
-    pub acts_onward : (u : State Cell) → (Ok Onward, u) ≡ flowed (with_pc pc r, s) (perform m (w / 16777216) z (with_pc pc r) s) → (Ok Onward, u) ≡ flowed (r, s) (act m code r s)
-    acts_onward u is = onward_from u (perform m (w / 16777216) z (with_pc pc r) s) is ∙ sym (ap (flowed (r, s)) acts)
-
-    pub acts_halts : (q : Registers) (t : List Cell) → (Ok Halts, (q, t)) ≡ flowed (with_pc pc r, s) (perform m (w / 16777216) z (with_pc pc r) s) → (Ok Halts, (with_pc r.pc q, t)) ≡ flowed (r, s) (act m code r s)
-    acts_halts q t is = halts_from q t (perform m (w / 16777216) z (with_pc pc r) s) is ∙ sym (ap (flowed (r, s)) acts)
 
     pub acts_stops : (q : Registers) (t : List Cell) (e : Stop) → (Err e, (q, t)) ≡ flowed (with_pc pc r, s) (perform m (w / 16777216) z (with_pc pc r) s) → (Err e, (with_pc r.pc q, t)) ≡ flowed (r, s) (act m code r s)
     acts_stops q t e is = stops_from q t e (perform m (w / 16777216) z (with_pc pc r) s) is ∙ sym (ap (flowed (r, s)) acts)

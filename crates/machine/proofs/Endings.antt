@@ -1,42 +1,19 @@
 -- How an instruction, and a step, goes on or ends. Assumes nothing.
-use Rattle.std.proofs.Common.{◌≡◌, ℕ, ◌≤◌, List, ℤ, Some, None, Ok, Err, Option, Result, sym, refl, ap, ◌∙◌, arith}
+use Rattle.std.proofs.Common.{◌≡◌, ℕ, ◌≤◌, List, ℤ, Some, None, Ok, Err, Option, Result, sym, refl, ap, arith}
 use Rattle.std.specs.Option.{ok_or, option_map}
 use Rattle.std.proofs.lemmas.Option.{slice_get_past}
 use Rattle.reckoning.specs.Meaning.{Meaning}
-use Rattle.machine.specs.declared.state.Flow.{Flow}
 use Rattle.machine.specs.declared.state.Flow.TheVariants.{Onward, Halts}
 use Rattle.machine.specs.declared.state.Registers.{Registers}
 use Rattle.instructions.specs.declared.Stop.{Stop}
 use Rattle.instructions.specs.declared.Stop.TheVariants.{Broken}
-use Rattle.machine.specs.Endings.{Ending, halted, stopped}
+use Rattle.machine.specs.Endings.{Ending, stopped}
 use Rattle.machine.specs.Instructions.{State, ◌>>=◌}
-use Rattle.machine.specs.Seen.{after, going_on, flowed, last, stepped}
-use Rattle.machine.specs.Steps.{goes, keeps, execute, perform, outcome}
+use Rattle.machine.specs.Seen.{flowed, last, stepped}
+use Rattle.machine.specs.Steps.{execute, perform, outcome}
 use Rattle.instructions.specs.Words.{table}
 
--- what `onward` makes of the answer of an instruction: one that may change the store, and one that leaves it as it is
-went : {X : Type 0} (t u : X) (x : Result X Stop) (o : Result (Unit {0}) Stop) (f : Result Flow Stop) → (o, u) ≡ after t x → f ≡ going_on o → ◌≡◌ {A = Result Flow Stop × X} (f, u) (going_on (after t x).0, (after t x).1)
-went t u x o f is on = (λ i. ((on ∙ ap (λ p. going_on p.0) is) i, (is i).1))
-
-gone : {Cell : Type 0} (t u : State Cell) (x : Result (State Cell) Stop) (o : Result (Unit {0}) Stop) (f : Result Flow Stop) → (o, u) ≡ after t x → f ≡ going_on o → (f, u) ≡ flowed t (goes x)
-gone t u (Ok v) o f is on = went t u (Ok v) o f is on
-gone t u (Err e) o f is on = went t u (Err e) o f is on
-
-kept : {Cell : Type 0} (r q : Registers) (s : List Cell) (x : Result Registers Stop) (o : Result (Unit {0}) Stop) (f : Result Flow Stop) → (o, q) ≡ after r x → f ≡ going_on o → (f, (q, s)) ≡ flowed (r, s) (keeps s x)
-kept r q s (Ok u) o f is on = ap (λ p. (p.0, (p.1, s))) (went r q (Ok u) o f is on)
-kept r q s (Err e) o f is on = ap (λ p. (p.0, (p.1, s))) (went r q (Err e) o f is on)
-
--- the same of the instruction with the number k
-module _ {Cell : Type 0} (m : Meaning Cell) (k : ℕ) {n : ℕ} (z : ℤ) (number : n ≡ k) where
-  numbered : (t : State Cell) (f : Result Flow Stop) (u : State Cell) → (f, u) ≡ flowed t (perform m k z t.0 t.1) → (f, u) ≡ flowed t (perform m n z t.0 t.1)
-  numbered t f u is = is ∙ ap (λ l. flowed t (perform m l z t.0 t.1)) (sym number)
-
-  pub performs : (t u : State Cell) (x : Result (State Cell) Stop) (o : Result (Unit {0}) Stop) (f : Result Flow Stop) → perform m k z t.0 t.1 ≡ goes x → (o, u) ≡ after t x → f ≡ going_on o → (f, u) ≡ flowed t (perform m n z t.0 t.1)
-  performs t u x o f means is on = numbered t f u (gone t u x o f is on ∙ ap (flowed t) (sym means))
-
-  pub performs_kept : (r q : Registers) (s : List Cell) (x : Result Registers Stop) (o : Result (Unit {0}) Stop) (f : Result Flow Stop) → perform m k z r s ≡ keeps s x → (o, q) ≡ after r x → f ≡ going_on o → (f, (q, s)) ≡ flowed (r, s) (perform m n z r s)
-  performs_kept r q s x o f means is on = numbered (r, s) f (q, s) (kept r q s x o f is on ∙ ap (flowed (r, s)) (sym means))
-
+-- a number that no instruction has
 pub perform_past : {Cell : Type 0} (m : Meaning Cell) (n : ℕ) (z : ℤ) (r : Registers) (s : List Cell) → 27 ≤ n → perform m n z r s ≡ Err Broken
 perform_past m n z r s past = ap (λ o. ok_or (option_map (λ i. i z) o) Broken >>= λ i. execute m i r s) (slice_get_past table n past)
 

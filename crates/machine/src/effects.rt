@@ -23,6 +23,7 @@ pub(crate) fn push<R: Reckoning>(
     Ok(())
 }
 
+#[tactic(auto, unfolding(crate::specs::Instructions::relative))]
 pub(crate) fn relative<R: Reckoning>(
     j: i32,
     r: &mut Registers,

@@ -1,11 +1,8 @@
-use Rattle.std.proofs.Common.{◌≡◌, sym, ap, ◌∙◌, add-one, arith, w32, SFits, rules}
+use Rattle.std.proofs.Common.{◌≡◌, sym, ap, ◌∙◌, arith, w32, SFits, rules}
 use Rattle.std.proofs.lemmas.Int.{to_z-of_z}
 use Rattle.machine.specs.Instructions.{cleared, clear}
 use Rattle.machine.proofs.Cells.{clear_done}
 use Rattle.machine.proofs.memory.clear.Goals as goal
-
-pub loop-i-preserved : goal.loop-i-preserved
-loop-i-preserved g c = rw add-one (rw c.loop-i.invariant)
 
 pub returns : goal.returns
 returns g c =

@@ -1,6 +1,0 @@
-use Rattle.std.proofs.Common.{rules}
-use Rattle.std.proofs.lemmas.List.{with_items_is}
-use Rattle.script.proofs.session.run_from.Goals as goal
-
-pub returns : goal.returns
-returns g c = search (rules, with_items_is)
