@@ -60,6 +60,7 @@ fn conclude<C: Copy>(ending: Result<(), Stopped>, outcome: C, spent: u32) -> Ans
     }
 }
 
+// Code and places are two lists, and the store a slice, as the caller supplies them.
 // Runs the function whose code starts at `start`, with its first frame above cell `cells`, the last one of its sheet.
 // None, and the store as it was, where there is no room for the frame or an address is too large for a cell.
 pub fn call<R: Reckoning>(

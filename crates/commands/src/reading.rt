@@ -140,7 +140,8 @@ fn cell<N: Notation>(line: &[u8], cells: usize) -> Result<(usize, N::Cell), Caus
     Ok((at, value))
 }
 
-// A line of a listing, or its end.
+// A line of a listing, or its end. The first word and the rest of its line stay two slices, of which each reader takes
+// what it needs.
 fn listed<N: Notation>(first: &[u8], rest: &[u8]) -> Result<Command<N::Cell>, Cause>
     ensures { result ≡ listed N.Notation.reads first.now (words rest.now) }
 {

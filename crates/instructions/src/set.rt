@@ -94,6 +94,7 @@ impl TryFrom<u32> for Instruction {
 }
 
 impl Instruction {
+    // No cast, since cases have fields; a method and not From, since it says what the number is.
     pub fn number(self) -> u32
         ensures is { result ≡ number self }
         ensures small { result ≤ 26 }

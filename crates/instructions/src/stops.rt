@@ -36,7 +36,7 @@ impl fmt::Display for Layer {
 }
 
 impl Stop {
-    // 40 to 44 are the machine's, 45 to 59 the reckoning's.
+    // 40 to 44 are the machine's, 45 to 59 the reckoning's. No cast, since a case has a field.
     pub fn number(self) -> u8
         ensures is { result ≡ stop_number self }
         ensures range { (40 ≤ result) × (result ≤ 59) }

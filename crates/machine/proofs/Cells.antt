@@ -1,5 +1,7 @@
 -- Cells of the store at signed addresses. Assumes nothing.
-use Rattle.std.proofs.Common.{◌≡◌, ℕ, zero, suc, ◌+◌, ◌<◌, ◌≤◌, true, false, ltb, ◌≢◌, ◌⊎◌, List, length, get_or, set, ℤ, pos, negsuc, ◌+ℤ◌, ◌-ℤ◌, nat_abs, Some, None, Option, Ok, Err, Result, cond, ◌&&◌, Bool, nat_lt, slice_set, sym, refl, ap, ◌∙◌, inl, inr, ⊎_elim, arith, length-set, get_or-set_other, get_or-set_same, le-ltb, lt-ltb, le-leb, w32, SFits}
+use Rattle.std.proofs.Common.{◌≡◌, ℕ, zero, suc, ◌+◌, ◌<◌, ◌≤◌, true, false, ltb, ◌≢◌, ◌⊎◌, List, length, get_or, set, ℤ, pos, negsuc, ◌+ℤ◌, ◌-ℤ◌, nat_abs, Some, None, Option, Ok, Err, Result, cond, ◌&&◌, Bool, nat_lt, slice_set, sym, refl, ap, ◌∙◌, inl, inr, ⊎_elim, arith, length-set, get_or-set_other, get_or-set_same, le-ltb, lt-ltb, le-leb, w32, SFits, ◌-◌, ◌++◌, take, drop, le_refl}
+use borrow.Rule.Slice.PartMut.{put_mid}
+use Rattle.std.proofs.lemmas.List.{length-set, length-drop, length-take-le, take-append-drop, set-append_left, set-append_right}
 use borrow.Author.Tests.{apart_eqb}
 use lib.Signed.{le_z}
 use Rattle.std.specs.Option.{ok_or}
@@ -105,3 +107,27 @@ module _ {Cell : Type 0} (s : List Cell) where
   pushed_by c (negsuc (suc n)) =
       let below : negsuc (suc n) +ℤ pos 1 ≡ negsuc n = omega (arith, ints) in
       rw below (sym (before c n (le_z (negsuc 2147483647) (negsuc n) && le_z (negsuc n) (pos 2147483647))))
+
+-- Clearing a part of the cells clears them in the whole.
+module _ {Cell : Type 0} (c : Cell) where
+  cleared_long : (s : List Cell) (a k : ℕ) → length (cleared c s a k) ≡ length s
+  cleared_long s a zero = refl
+  cleared_long s a (suc k) = length-set (cleared c s a k) (a + k) c ∙ cleared_long s a k
+
+  part_cleared : (s : List Cell) (a n k : ℕ) → k ≤ n → a + n ≤ length s → take a s ++ (cleared c (take n (drop a s)) 0 k ++ drop n (drop a s)) ≡ cleared c s a k
+  part_cleared s a n zero less fits = ap (λ t. take a s ++ t) (take-append-drop n (drop a s)) ∙ take-append-drop a s
+  part_cleared s a n (suc k) less fits =
+      let ys : List Cell = cleared c (take n (drop a s)) 0 k in
+      let rest : List Cell = drop n (drop a s) in
+      let front : length (take a s) ≡ a = length-take-le a s (omega arith) in
+      let part : n ≤ length (drop a s) = omega (arith, length-drop a s) in
+      let long : length ys ≡ n = cleared_long (take n (drop a s)) 0 k ∙ length-take-le n (drop a s) part in
+      let low : 0 + k < length ys = omega arith in
+      let at : a + k - a ≡ 0 + k = omega arith in
+      ap (λ t. take a s ++ t) (sym (set-append_left ys rest (0 + k) c low))
+      ∙ ap (λ i. take a s ++ set (ys ++ rest) i c) (sym at)
+      ∙ sym (set-append_right (take a s) (ys ++ rest) a (a + k) c front (omega arith))
+      ∙ ap (λ t. set t (a + k) c) (part_cleared s a n k (omega arith) fits)
+
+  pub clears : (s ys : List Cell) (a n k : ℕ) → a + k ≤ length s → n ≡ k → ys ≡ cleared c (take n (drop a s)) 0 k → put_mid a n s ys ≡ cleared c s a k
+  clears s ys a n k fits same is = rw (is, same) (part_cleared s a k k (le_refl k) fits)

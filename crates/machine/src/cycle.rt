@@ -23,7 +23,7 @@ fn onward(answer: Result<(), Stop>) -> Result<Flow, Stop>
     answer.map(|()| Flow::Onward)
 }
 
-// One case a number, so that a word is dispatched on once.
+// One case a number, so that a word is dispatched on once. The set is closed: a match, and no table of functions.
 fn perform<R: Reckoning>(
     number: u32,
     operand: i32,
@@ -98,6 +98,7 @@ pub fn step<R: Reckoning>(
     })
 }
 
+// Code and places are two lists as the caller supplies them.
 // Runs from these registers to the first halt or stop, and leaves registers and store as they then are.
 pub fn run<R: Reckoning>(
     code: &[u32],

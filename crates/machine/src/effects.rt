@@ -1,5 +1,7 @@
 // One function for each instruction. The program counter is past the instruction already.
 // A stop leaves registers and store as they were.
+// The two are parameters and no struct: so their types say which of them an instruction changes, only reads or does
+// not touch, where the clauses of a struct's methods would have to, and that the borrowed store is still the same one.
 ghost use Rattle.std.specs.Prelude.{◌≡◌, ◌<◌, OnOk};
 ghost use Rattle.machine.specs.Instructions.{push, relative, load, store_top, pop, binary, negate, invert, spent, toll, jump, branch, mark, admitted, read_after, link, call, enter, allocate, fewer, saved, leave, check};
 ghost use Rattle.machine.specs.Seen.{after};

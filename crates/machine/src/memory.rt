@@ -6,6 +6,7 @@ ghost use Rattle.machine.specs.Seen.{after, given};
 use instructions::Stop;
 use reckoning::Reckoning;
 
+// Two functions, not one over a sign: each is one method of the library, and a call says which way it goes.
 pub(crate) fn raised(n: i32, by: i32) -> Result<i32, Stop>
     ensures { result ≡ register (n +ℤ by) }
 {
@@ -73,8 +74,8 @@ pub(crate) fn clear<C: Copy>(store: &mut [C], address: i32, count: u32, c: C) ->
         return Err(Stop::Broken);
     }
     // No fill, which asks for a clone that cannot fail: C: Copy does not say that of its clone.
-    for i in 0..count as usize {
-        store[first + i] = c;
+    for cell in store[first..first + count as usize].iter_mut() {
+        *cell = c;
     }
     Ok(())
 }

@@ -22,6 +22,7 @@ pub enum Stop {
 }
 
 impl Stop {
+    // A method and not From, since it says what the number is.
     pub fn number(self) -> u8
         ensures is { result ≡ number self }
         ensures range { (45 ≤ result) × (result ≤ 59) }
@@ -108,6 +109,7 @@ pub trait Reckoning {
     ghost lawful: { Laws meaning };
 }
 
+// The set of operators is closed: a match, which needs no value of a function.
 pub fn operate<R: Reckoning>(
     operator: Operator,
     left: R::Cell,

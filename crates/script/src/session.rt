@@ -120,6 +120,7 @@ fn show<N: Notation>(
     session.output.push_str(line.as_str())
 }
 
+// The set of commands is closed: a match, where a closure for each would have to be made and kept.
 pub(crate) fn execute<N: Notation>(
     heap: Global,
     session: &mut Session<N::Cell>,

@@ -6,6 +6,7 @@ use cells::Notation;
 use machine::{Registers, Stopped};
 use std::alloc::{AllocError, Global};
 
+// A Result is not ours to display.
 fn ending_text(heap: Global, ending: Result<(), Stopped>) -> Result<String, AllocError>
     ensures { IfOk result (λ s. string_bytes s ≡ ending_text ending) }
 {

@@ -43,7 +43,8 @@ fn conclude<C>(heap: Global, session: &mut Session<C>) -> Result<(), Cause>
     Ok(())
 }
 
-// Carries out the lines that are left after the one of this index, up to the first fault.
+// Carries out the lines that are left after the one of this index, up to the first fault. That they are numbered from
+// there on is asked by the three functions that pass them on: a struct that kept it would be this iterator again.
 fn carry_out<N: Notation>(
     heap: Global,
     session: &mut Session<N::Cell>,
@@ -76,6 +77,7 @@ fn carry_out_all<N: Notation>(heap: Global, lines: Enumerate<Lines>, read: usize
     }
 }
 
+// A match: the reckonings are types, of which a script names one as it runs.
 fn carry_out_in(heap: Global, reckoning: Chosen, lines: Enumerate<Lines>, read: usize) -> Transcript
     requires { Numbered read lines }
     ensures { Meets (string_bytes result.output) result.fault (reckoned reckoning (read + 1) (left lines.entry)) }

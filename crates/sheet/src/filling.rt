@@ -1,4 +1,4 @@
-// The tokens of a text, each in a record of its own.
+// The tokens of a text, each in a record of its own. The table is the caller's, and how much of it is filled the answer.
 ghost use Rattle.std.specs.Prelude.{◌≡◌, length};
 ghost use Rattle.tokens.specs.Tokens.{tokens};
 ghost use Rattle.sheet.specs.Nodes.{filled, shown, told, meant};

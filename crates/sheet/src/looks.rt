@@ -1,4 +1,4 @@
-// What a table shows at an index.
+// What a table shows at an index. Table and index stay two: the one is fixed, and a parser answers the other.
 ghost use Rattle.std.specs.Prelude.{◌≡◌};
 ghost use Rattle.grammar.specs.Words.{level};
 ghost use Rattle.sheet.specs.Looks.{kind_at, start_of, binding, is_at, equals_at, opening_at};

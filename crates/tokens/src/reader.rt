@@ -17,7 +17,7 @@ fn rest(text: &[u8], from: usize) -> &[u8]
     text.get(from..).unwrap_or(&[])
 }
 
-// A kept word, or else a name of at most 24 bytes.
+// A kept word, or else a name of at most 24 bytes. A match, since the length is tested on the way.
 fn word_or_name(bytes: &[u8]) -> Result<Token<'_>, Cause>
     ensures { lexed result ≡ named bytes.now (kept bytes.now) }
 {

@@ -1,4 +1,4 @@
-// Lines, words and numbers in text, as bytes.
+// Lines, words and numbers in text, as bytes: a line keeps its carriage return, which `lines` of a &str takes off.
 #![tactic(auto)]
 
 mod lines;
