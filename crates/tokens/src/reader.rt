@@ -4,7 +4,7 @@ ghost use Rattle.tokens.specs.Tokens.{kept, named, numbered, signed, front_of, n
 ghost use Rattle.tokens.specs.Laws.{First};
 ghost use Rattle.tokens.specs.Answers.{lexed, measured, answered};
 
-use crate::bytes::{digits_length, gaps_length, inner_length, is_letter};
+use crate::bytes::{front_length, is_gap, is_inner, is_letter};
 use crate::fault::{Cause, Fault};
 use crate::lexemes::{Found, Spanned, Token};
 use crate::numerals::{has_needless_zero, value_of};
@@ -62,10 +62,10 @@ fn front(bytes: &[u8]) -> Result<(Token<'_>, usize), Cause>
 {
     let first = bytes[0];
     if is_letter(first) {
-        let length = inner_length(bytes);
+        let length = front_length(bytes, is_inner);
         word_or_name(&bytes[..length]).map(|token| (token, length))
     } else if first.is_ascii_digit() {
-        let length = digits_length(bytes);
+        let length = front_length(bytes, |byte| byte.is_ascii_digit());
         number(&bytes[..length]).map(|token| (token, length))
     } else {
         sign(first, &bytes[1..])
@@ -77,7 +77,7 @@ pub fn next_token(text: &[u8], from: usize) -> Result<Option<Found<'_>>, Fault>
     ensures is { answered result ≡ next text.now from }
     ensures first { First from (drop from text.now) (answered result) }
 {
-    let place = from + gaps_length(rest(text, from));
+    let place = from + front_length(rest(text, from), is_gap);
     let bytes = rest(text, place);
     if bytes.is_empty() {
         return Ok(None);
