@@ -1,4 +1,4 @@
-ghost use Rattle.std.specs.Prelude.{◌≡◌, ℕ, true, false, IfOk, string_bytes, Option};
+ghost use Rattle.std.specs.Prelude.{◌≡◌, ℕ, Bool, true, false, IfOk, string_bytes, Option};
 ghost use Rattle.std.specs.Fn.{FnReturnsAt};
 ghost use Rattle.std.specs.Option.{option_map};
 ghost use Rattle.wording.specs.Numerals.{digits, minus, unsigned, signed, integer, fraction, scaled, thousandths, read_within, read_below, thousandths_written};
@@ -59,11 +59,18 @@ where
     T::try_from(number).map_err(|_| Misread::OutOfRange)
 }
 
+// The number, if it lies from `low` to `high`, with a magnitude cut off at 64 bits or not.
+fn within_i64(number: Option<i128>, low: i64, high: i64) -> Result<i64, Misread>
+    ensures { (negative : Bool) (o : Option ℕ) → number ≡ option_map (signed negative) (capped o) → result ≡ read_within low high (option_map (signed negative) o) }
+{
+    within(number, i128::from(low), i128::from(high))
+}
+
 // The whole number that a word stands for, if it lies from `low` to `high`.
 pub fn integer_within(text: &[u8], low: i64, high: i64) -> Result<i64, Misread>
     ensures { result ≡ read_within low high (integer text.now) }
 {
-    within(integer(text), i128::from(low), i128::from(high))
+    within_i64(integer(text), low, high)
 }
 
 // The whole number that a word stands for, if it lies from 0 to below `count`.
@@ -110,7 +117,7 @@ fn thousandths(text: &[u8]) -> Option<i128>
 pub fn thousandths_within(text: &[u8], low: i64, high: i64) -> Result<i64, Misread>
     ensures { result ≡ read_within low high (thousandths text.now) }
 {
-    within(thousandths(text), i128::from(low), i128::from(high))
+    within_i64(thousandths(text), low, high)
 }
 
 // A number of thousandths, with three digits after the point.
