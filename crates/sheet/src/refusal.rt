@@ -10,7 +10,8 @@ pub enum Reason {
     Depth = 7,
 }
 
-// The token that is refused, by its index; the count of tokens stands for the end.
+// The token that is refused, by its index; the count of tokens stands for the end. No Fault of the reader, whose place
+// counts bytes.
 #[derive(Debug, Clone, Copy, PartialEq, Eq, Drop)]
 pub struct Refusal {
     pub reason: Reason,

@@ -1,5 +1,5 @@
 // The tokens of a text, one after another.
-ghost use Rattle.std.specs.Prelude.{◌≡◌, ◌-◌, length};
+ghost use Rattle.std.specs.Prelude.{◌-◌, length};
 
 use crate::fault::Fault;
 use crate::lexemes::Found;
@@ -13,9 +13,10 @@ pub struct Tokens<'a> {
 }
 
 impl<'a> Tokens<'a> {
+    ghost use Rattle.tokens.specs.Stream.{Starts};
+
     pub fn new(text: &'a [u8]) -> Self
-        ensures text { result.text.now ≡ text.now }
-        ensures from { result.from ≡ 0 }
+        ensures { Starts text.now result }
     {
         Tokens { text, from: 0 }
     }
