@@ -51,7 +51,7 @@ fn with_operand(name: &[u8], operand: &[u8]) -> Result<u32, Cause>
     }
     let number = number_of(name)?;
     let operand = between(operand, -0x80_0000, 0x7f_ffff, Cause::OperandRange)?;
-    word_with(number, operand)
+    word_with(number, i64::from(operand))
 }
 
 fn place(word: &[u8]) -> Result<u32, Cause>

@@ -5,7 +5,7 @@ ghost use Rattle.commands.specs.Commands.{chosen, reckoning, pointer, counter, s
 
 use crate::cause::Cause;
 use crate::listing;
-use crate::words::{below, is_comment, next_two, none, one, signed, two, unsigned};
+use crate::words::{below, between, is_comment, next_two, none, one, two, unsigned};
 use cells::Notation;
 use machine::Registers;
 use wording::{first_word, is_word};
@@ -80,7 +80,7 @@ pub fn reckoning_of(line: &[u8]) -> Result<Option<Chosen>, Cause>
 fn pointer(word: &[u8]) -> Result<i32, Cause>
     ensures { result ≡ pointer word.now }
 {
-    signed(word, Cause::RegisterRange)
+    between(word, i32::MIN, i32::MAX, Cause::RegisterRange)
 }
 
 fn counter(word: &[u8]) -> Result<u32, Cause>

@@ -1,5 +1,5 @@
 // The words after the first of a line.
-ghost use Rattle.std.specs.Prelude.{◌≡◌, pos, negsuc};
+ghost use Rattle.std.specs.Prelude.{◌≡◌};
 ghost use Rattle.wording.specs.Pieces.{words};
 ghost use Rattle.commands.specs.Arguments.{cause_of, none, next, one, next_two, two, below, between, comment, word_of, pair_of, next_of, rest_of};
 
@@ -72,24 +72,19 @@ pub(crate) fn below(word: &[u8], count: usize, outside: Cause) -> Result<usize, 
 }
 
 // A number from `low` to `high`, where `outside` is what is wrong with any other.
-pub(crate) fn between(word: &[u8], low: i64, high: i64, outside: Cause) -> Result<i64, Cause>
+pub(crate) fn between(word: &[u8], low: i32, high: i32, outside: Cause) -> Result<i32, Cause>
     ensures { result ≡ between low high outside word.now }
 {
-    integer_within(word, low, high).map_err(|misread| cause_of(misread, outside))
+    let number = integer_within(word, i64::from(low), i64::from(high));
+    let number = number.map_err(|misread| cause_of(misread, outside))?;
+    i32::try_from(number).map_err(|_| outside)
 }
 
 // A number of 32 bits and no sign, where `outside` is what is wrong with any other.
+// It is apart from `between`, since its clause speaks of natural numbers and not of integers.
 pub(crate) fn unsigned(word: &[u8], outside: Cause) -> Result<u32, Cause>
     ensures { result ≡ below 4294967296 outside word.now }
 {
     let number = below(word, 0x1_0000_0000, outside)?;
     u32::try_from(number).map_err(|_| outside)
-}
-
-// A number of 32 bits, one of them its sign, where `outside` is what is wrong with any other.
-pub(crate) fn signed(word: &[u8], outside: Cause) -> Result<i32, Cause>
-    ensures { result ≡ between (negsuc 2147483647) (pos 2147483647) outside word.now }
-{
-    let number = between(word, -0x8000_0000, 0x7fff_ffff, outside)?;
-    i32::try_from(number).map_err(|_| outside)
 }
