@@ -42,7 +42,7 @@ fn begin<R: Reckoning>(
     write_frame(store, cells, R::whole(0), arguments)?;
     let frame = cells as i32 + 4;
     Some(Registers {
-        pc: start as i32,
+        pc: i32::from(start),
         sp: frame + arguments.len() as i32,
         fp: frame,
         ep: 0,

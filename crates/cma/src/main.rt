@@ -2,12 +2,13 @@
 #![tactic(auto)]
 
 use script::{Fault, perform};
+use std::error::Error;
 use std::io::ErrorKind;
 use std::process::ExitCode;
 use std::{fmt, io};
 
 // Why a script is not carried out to its end.
-#[derive(Drop)]
+#[derive(Debug, Drop)]
 enum Failure {
     Input(io::Error),
     Output(io::Error),
@@ -27,6 +28,8 @@ impl fmt::Display for Failure {
         }
     }
 }
+
+impl Error for Failure {}
 
 // What a script prints before a fault is written too.
 fn carry_out(rt: &HostRuntime) -> Result<(), Failure> {

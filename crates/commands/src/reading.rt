@@ -153,7 +153,7 @@ fn listed<N: Notation>(first: &[u8], rest: &[u8]) -> Result<Command<N::Cell>, Ca
     Ok(Command::Word(word, place))
 }
 
-// A line outside a listing that sets something.
+// A line outside a listing that sets something. The set of commands is closed: a match.
 fn outside<N: Notation>(
     context: Context,
     first: &[u8],

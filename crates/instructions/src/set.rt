@@ -1,6 +1,7 @@
-ghost use Rattle.std.specs.Prelude.{◌≡◌, ◌%◌, ◌≤◌};
+ghost use Rattle.std.specs.Prelude.{Some, ◌≡◌, ◌%◌, ◌≤◌};
 ghost use Rattle.std.specs.Option.{ok_or};
 ghost use Rattle.instructions.specs.Words.{signed, decoded, number, operand, word_of, encoded, unknown, out_of_range, Encodes, Decodes};
+ghost use Rattle.instructions.specs.Faults.{unknown_text, range_text};
 
 use reckoning::{Comparison, Operator};
 use std::error::Error;
@@ -45,6 +46,8 @@ pub fn operand_of(word: u32) -> i32
 pub struct UnknownWord(pub u32);
 
 impl fmt::Display for UnknownWord {
+    ghost output = { λ e. Some (unknown_text e.0) };
+
     fn fmt<W: fmt::Write>(&self, f: &mut fmt::Formatter<W>) -> fmt::Result {
         write!(f, "no instruction has the word {}", self.0)
     }
@@ -157,6 +160,8 @@ pub fn word_of(number: u8, operand: i32) -> Option<u32>
 pub struct OperandRange(pub i32);
 
 impl fmt::Display for OperandRange {
+    ghost output = { λ e. Some (range_text e.0) };
+
     fn fmt<W: fmt::Write>(&self, f: &mut fmt::Formatter<W>) -> fmt::Result {
         write!(f, "the operand {} has more than 24 bits", self.0)
     }

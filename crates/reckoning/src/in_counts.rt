@@ -40,6 +40,7 @@ impl Reckoning for Counts {
     }
 
     fn divide(left: i32, right: i32) -> Result<i32, Stop> {
+        // The test of a divisor is a line in each of the four divisions, which are four different ones.
         if right == 0 {
             return Err(Stop::ZeroDivisor);
         }

@@ -91,7 +91,7 @@ impl Reckoning for Weights {
         }
     }
 
-    // Neither end of the range has a place, so a weight outside the range has none either, and is not moved.
+    // Tested as Counts::place is, for its reason. Neither end of the range has a place, so a weight outside the range has none either, and is not moved.
     fn place(cell: Weight) -> Option<u16> {
         let thousandths = cell.thousandths;
         if thousandths >= 0 && thousandths <= 16_383_000 && thousandths % 1000 == 0 {

@@ -1,6 +1,7 @@
 ghost use Rattle.std.specs.Prelude.{◌≤◌};
 
 use commands::Cause;
+use std::error::Error;
 use std::fmt;
 
 // The first line that cannot be carried out, from 1, and what is wrong with it.
@@ -17,3 +18,5 @@ impl fmt::Display for Fault {
         write!(f, "line {line}: {cause}")
     }
 }
+
+impl Error for Fault {}

@@ -16,7 +16,8 @@ use std::alloc::Global;
 use std::iter::Enumerate;
 use wording::Lines;
 
-// What a script prints, up to the first line that cannot be carried out, and what is wrong with that line.
+// What a script prints, up to the first line that cannot be carried out, and what is wrong with that line. The output
+// stands there in both cases, so that the fault is a part and not the other answer.
 #[derive(Debug, PartialEq, Eq, Drop)]
 pub struct Transcript {
     pub output: String,

@@ -1,7 +1,8 @@
 ghost use Rattle.std.specs.Prelude.{◌≡◌, min};
 ghost use Rattle.tokens.specs.Tokens.{value, needless};
 
-// What digits are worth, at most the largest u32: all past 16,383 are refused alike.
+// What digits are worth, at most the largest u32: all past 16,383 are refused alike. `digits` of `wording` beside it also
+// finds out whether they are digits; here they are.
 pub(crate) fn value_of(digits: &[u8]) -> u32
     ensures { result ≡ min (value digits.now) 4294967295 }
 {

@@ -6,6 +6,8 @@ ghost use Rattle.tokens.specs.Tokens.{tokens, number_of};
 use crate::fault::{Cause, Fault};
 use crate::stream::Tokens;
 
+// The loop of `fill` in `sheet` again, which stores what is counted here: shared, it would take a closure that writes
+// the caller's table. The count is the answer.
 // How many tokens a text has: at most 4,096, and at most as many as there are records.
 pub fn read(text: &[u8], records: usize) -> Result<usize, Fault>
     ensures is { result ≡ number_of (tokens text.now records) }

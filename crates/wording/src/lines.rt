@@ -5,7 +5,7 @@ ghost use Rattle.wording.specs.Pieces.{lines};
 
 use crate::pieces::first_line;
 
-// The lines of a text, one after another.
+// The lines of a text, one after another, as `first_line` gives them: bytes, as the words of a line are.
 #[derive(Clone, Debug, Drop)]
 pub struct Lines<'a> {
     rest: &'a [u8],
