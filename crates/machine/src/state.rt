@@ -1,5 +1,5 @@
 ghost use Rattle.std.specs.Prelude.{Some};
-ghost use Rattle.machine.specs.Endings.{stopped_text};
+ghost use Rattle.machine.specs.Endings.{registers_text, stopped_text};
 
 use instructions::Stop;
 use std::error::Error;
@@ -15,6 +15,25 @@ pub struct Registers {
     pub ep: i32,
     pub active: u32,
     pub budget: u32,
+}
+
+impl fmt::Display for Registers {
+    ghost output = { λ r. Some (registers_text r) };
+
+    fn fmt<W: fmt::Write>(&self, f: &mut fmt::Formatter<W>) -> fmt::Result {
+        let Registers {
+            pc,
+            sp,
+            fp,
+            ep,
+            active,
+            budget,
+        } = self;
+        write!(
+            f,
+            "pc {pc} sp {sp} fp {fp} ep {ep} active {active} budget {budget}"
+        )
+    }
 }
 
 // Why a run stops, and at which place of the text.

@@ -1,6 +1,6 @@
 // The lines that a script prints. Each is made whole, so that an error leaves the output as it was.
 ghost use Rattle.std.specs.Prelude.{◌≡◌, IfOk, string_bytes};
-ghost use Rattle.script.specs.Texts.{ending_text, pointers_text, run_line, row};
+ghost use Rattle.script.specs.Texts.{ending_text, run_line, row};
 
 use cells::Notation;
 use machine::{Registers, Stopped};
@@ -16,14 +16,6 @@ fn ending_text(heap: Global, ending: Result<(), Stopped>) -> Result<String, Allo
     }
 }
 
-// A piece of its own, since a format of nine values is more than its proof computes.
-fn pointers_text(heap: Global, registers: Registers) -> Result<String, AllocError>
-    ensures { IfOk result (λ s. string_bytes s ≡ pointers_text registers) }
-{
-    let Registers { pc, sp, fp, ep, .. } = registers;
-    format!(in heap; "pc {pc} sp {sp} fp {fp} ep {ep}")
-}
-
 pub(crate) fn run_line(
     heap: Global,
     ending: Result<(), Stopped>,
@@ -33,9 +25,7 @@ pub(crate) fn run_line(
     ensures { IfOk result (λ s. string_bytes s ≡ run_line ending registers spent) }
 {
     let ending = ending_text(heap, ending)?;
-    let pointers = pointers_text(heap, registers)?;
-    let Registers { active, budget, .. } = registers;
-    format!(in heap; "{ending} | {pointers} active {active} budget {budget} spent {spent}\n")
+    format!(in heap; "{ending} | {registers} spent {spent}\n")
 }
 
 // Cells on one line, with a space between two.
