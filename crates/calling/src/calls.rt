@@ -13,6 +13,7 @@ pub struct Answer<C> {
 
 // Writes the first frame above cell `cells`, if there is room for it: the result's cell and what a call would save, each
 // `empty`, then the arguments.
+// An Option of nothing, which `?` takes in a function that answers an Option.
 fn write_frame<C: Copy>(store: &mut [C], cells: usize, empty: C, arguments: &[C]) -> Option<()>
     ensures { (result, store.new) ≡ framed_where empty cells arguments.now store.old }
 {

@@ -1,4 +1,4 @@
-// How the cells of a reckoning are written in a script.
+// How the cells of a reckoning are written in a script. A trait of our own: the cell of Counts is an i32.
 ghost use Rattle.std.specs.Prelude.{◌≡◌, ℕ, List, IfOk, string_bytes, Option};
 ghost use Rattle.std.specs.Fmt.{signed_decimal};
 ghost use Rattle.cells.specs.Cells.{count_read, weight_read, weight_written};

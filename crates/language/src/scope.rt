@@ -6,6 +6,7 @@ fn scoped()
 {}
 
 // How many laws of scope there are. Each holds of every sheet.
+// It has its likes in other crates: what differs is the promise, and a contract is no parameter.
 pub fn scope_laws() -> u8
     ensures number { result ≡ 15 }
     ensures scoping { Scoping }

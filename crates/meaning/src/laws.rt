@@ -9,6 +9,7 @@ fn agree<R: Reckoning>()
 {}
 
 // How many laws tie the code of every sheet to its reading, in every reckoning.
+// It has its likes in other crates: what differs is the promise, and a contract is no parameter.
 pub fn agreement_laws<R: Reckoning>() -> u8
     ensures number { result ≡ 2 }
     ensures agreement { Agreement R.Reckoning.meaning }

@@ -11,6 +11,7 @@ fn obeyed()
 {}
 
 // How many worked examples the questions have. Each gives what it should, and the laws of the questions hold of every sheet.
+// It has its likes in other crates: what differs is the promise, and a contract is no parameter.
 pub fn question_laws() -> u8
     ensures number { result ≡ length examples }
     ensures agree { Agree }

@@ -21,7 +21,7 @@ pub struct Weight {
 }
 
 impl Weight {
-    // The weight of a number of thousandths, if the number is in range.
+    // The weight of a number of thousandths, if the number is in range. No TryFrom: it is how weights are made.
     pub fn new(thousandths: i64) -> Result<Weight, Stop>
         ensures { result ≡ weighed thousandths }
     {

@@ -1,4 +1,4 @@
-// What kept words and signs are spelled with.
+// What kept words and signs are spelled with. Matches on literals, and no TryFrom, whose error nobody would read.
 ghost use Rattle.std.specs.Prelude.{◌≡◌};
 ghost use Rattle.tokens.specs.Tokens.{kept, single, double};
 

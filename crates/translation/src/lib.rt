@@ -10,6 +10,7 @@ fn laid_out()
 {}
 
 // How many laws the layout of every sheet's code obeys.
+// It has its likes in other crates: what differs is the promise, and a contract is no parameter.
 pub fn layout_laws() -> u8
     ensures number { result ≡ 2 }
     ensures same_size { SameSize }
