@@ -1,4 +1,4 @@
--- How a run ends: the machine halts, or stops at a place of the text. Assumes nothing.
+-- How a run ends, by a halt or by a stop at a place of the text; and how stops and registers are written. Assumes nothing.
 use Rattle.std.specs.Fmt.{signed_decimal}
 use Rattle.std.specs.Prelude.{ℕ, List, ◌++◌, Ok, Err, codes, decimal, Result}
 use Rattle.instructions.specs.declared.Stop.{Stop}

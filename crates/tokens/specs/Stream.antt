@@ -1,10 +1,9 @@
 -- What the iterator over a text's tokens gives. Assumes nothing.
 use Rattle.std.specs.Prelude.{◌≡◌, ℕ, List, length, Some, None, Ok, Err, Option, Result}
 use Rattle.tokens.specs.declared.fault.Fault.{Fault}
-use Rattle.tokens.specs.Answers.{Found}
 use Rattle.tokens.specs.declared.stream.Tokens.{Tokens}
 use Rattle.tokens.specs.Tokens.{next}
-use Rattle.tokens.specs.Answers.{piece_of}
+use Rattle.tokens.specs.Answers.{Found, piece_of}
 
 -- The token from an offset on, and behind it the others. Behind the end, or a fault, there is none.
 abbrev pub Gives : Tokens → Option (Result Found Fault) → Tokens → Type 0
