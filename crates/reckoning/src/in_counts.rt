@@ -3,6 +3,7 @@ ghost use Rattle.reckoning.specs.Counts.{counts_meaning};
 ghost use Rattle.std.proofs.Common.{rules};
 
 use crate::base::{Comparison, Reckoning, Stop};
+use crate::wide;
 
 // Cells are whole numbers from -2,147,483,648 to 2,147,483,647.
 pub enum Counts {}
@@ -28,15 +29,15 @@ impl Reckoning for Counts {
     }
 
     fn add(left: i32, right: i32) -> Result<i32, Stop> {
-        left.checked_add(right).ok_or(Stop::OutOfRange)
+        wide::narrow(wide::sum(left, right), i32::MIN, i32::MAX).ok_or(Stop::OutOfRange)
     }
 
     fn subtract(left: i32, right: i32) -> Result<i32, Stop> {
-        left.checked_sub(right).ok_or(Stop::OutOfRange)
+        wide::narrow(wide::difference(left, right), i32::MIN, i32::MAX).ok_or(Stop::OutOfRange)
     }
 
     fn multiply(left: i32, right: i32) -> Result<i32, Stop> {
-        left.checked_mul(right).ok_or(Stop::OutOfRange)
+        wide::narrow(wide::product(left, right), i32::MIN, i32::MAX).ok_or(Stop::OutOfRange)
     }
 
     fn divide(left: i32, right: i32) -> Result<i32, Stop> {
