@@ -1,5 +1,3 @@
-ghost use Rattle.std.specs.Prelude.{◌≤◌};
-
 use commands::Cause;
 use std::error::Error;
 use std::fmt;
@@ -9,7 +7,6 @@ use std::fmt;
 pub struct Fault {
     pub line: usize,
     pub cause: Cause,
-    pub ghost from_one: { 1 ≤ line },
 }
 
 impl fmt::Display for Fault {

@@ -53,7 +53,8 @@ fn carry_out<N: Notation>(
     read: usize,
 ) -> Result<(), Fault>
     requires { Numbered read lines }
-    ensures { Meets (string_bytes session.new.output) (result_err result) (carried N.Reckoning.meaning N.Notation.reads N.Notation.writes (read + 1) (left lines.entry) (state session.old)) }
+    ensures from_one { FromOne (result_err result) }
+    ensures meets { Meets (string_bytes session.new.output) (result_err result) (carried N.Reckoning.meaning N.Notation.reads N.Notation.writes (read + 1) (left lines.entry) (state session.old)) }
 {
     let mut at = read;
     for (i, line) in lines {
@@ -68,7 +69,8 @@ fn carry_out<N: Notation>(
 
 fn carry_out_all<N: Notation>(heap: Global, lines: Enumerate<Lines>, read: usize) -> Transcript
     requires { Numbered read lines }
-    ensures { Meets (string_bytes result.output) result.fault (carried N.Reckoning.meaning N.Notation.reads N.Notation.writes (read + 1) (left lines.entry) fresh) }
+    ensures from_one { FromOne result.fault }
+    ensures meets { Meets (string_bytes result.output) result.fault (carried N.Reckoning.meaning N.Notation.reads N.Notation.writes (read + 1) (left lines.entry) fresh) }
 {
     let mut session = empty_session::<N::Cell>(heap);
     let fault = carry_out::<N>(heap, &mut session, lines, read).err();
@@ -81,7 +83,8 @@ fn carry_out_all<N: Notation>(heap: Global, lines: Enumerate<Lines>, read: usize
 // A match: the reckonings are types, of which a script names one as it runs.
 fn carry_out_in(heap: Global, reckoning: Chosen, lines: Enumerate<Lines>, read: usize) -> Transcript
     requires { Numbered read lines }
-    ensures { Meets (string_bytes result.output) result.fault (reckoned reckoning (read + 1) (left lines.entry)) }
+    ensures from_one { FromOne result.fault }
+    ensures meets { Meets (string_bytes result.output) result.fault (reckoned reckoning (read + 1) (left lines.entry)) }
 {
     match reckoning {
         Chosen::Counts => carry_out_all::<Counts>(heap, lines, read),
@@ -94,6 +97,7 @@ fn begin(lines: &mut Enumerate<Lines>) -> Result<(Chosen, usize), Fault>
     requires first { enumerate_count lines.old ≡ 0 }
     requires room { length (left lines.old) < 2 ^ 64 }
     ensures is { begun_of result (left lines.new) ≡ begun 0 (left lines.old) }
+    ensures from_one { FromOne (result_err result) }
     ensures numbered { IfOk result (λ p. Numbered p.1 lines.new) }
 {
     let mut at = 0;

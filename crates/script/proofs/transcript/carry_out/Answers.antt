@@ -5,8 +5,8 @@ use Rattle.script.specs.Scripts.{left}
 use Rattle.script.proofs.Folds.{step_raises}
 use Rattle.script.proofs.transcript.carry_out.Goals as goal
 
-pub returns-in_err-map_err : goal.returns-in_err-map_err
-returns-in_err-map_err g c =
+pub returns-in_err-map_err-clause-meets : goal.returns-in_err-map_err-clause-meets
+returns-in_err-map_err-clause-meets g c =
     let i = c.loop-i.invariant in
     let f = c.in-Some.ensures.steps in
     let p = err_from_is_err_and c.from_residual.result c.from_residual.ensures.1 in
