@@ -41,12 +41,10 @@ fn is_as_expected(rt: &HostRuntime, stem: &str) -> anyhow::Result<bool> {
 
 fn compare_all(rt: &HostRuntime) -> anyhow::Result<()> {
     let list = fs::read_to_string(rt, "list.txt")?;
-    let answers: Vec<bool> = list
-        .lines()
-        .map(|stem| is_as_expected(rt, stem))
-        .try_collect(rt.alloc())?;
-    let cases = answers.len();
-    let as_expected = answers.iter().filter(|same| **same).count();
+    let cases = list.lines().count();
+    let as_expected = list.lines().try_fold(0, |count: usize, stem| {
+        is_as_expected(rt, stem).map(|same| count.saturating_add(usize::from(same)))
+    })?;
     println!(rt; "{cases} cases, {as_expected} as expected")?;
     Ok(())
 }
