@@ -32,8 +32,12 @@ fn word_or_name(bytes: &[u8]) -> Result<Token<'_>, Cause>
 fn number(digits: &[u8]) -> Result<Token<'_>, Cause>
     ensures { lexed result ≡ numbered digits.now }
 {
+    // Asked first, so that zeros are not multiplied.
+    if has_needless_zero(digits) {
+        return Err(Cause::Limit);
+    }
     let value = value_of(digits);
-    if value > 16383 || has_needless_zero(digits) {
+    if value > 16383 {
         Err(Cause::Limit)
     } else {
         Ok(Token::Number(digits, value))
