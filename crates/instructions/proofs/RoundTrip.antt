@@ -1,14 +1,15 @@
 -- A word and its instruction come back from each other. Assumes nothing.
-use Rattle.std.proofs.Common.{◌≡◌, ℕ, ◌+◌, ◌-◌, ◌*◌, ◌/◌, ◌%◌, ◌<◌, ◌≤◌, Bool, true, false, cond, ◌&&◌, ℤ, pos, negsuc, Some, None, Option, Ok, refl, ap, ◌∙◌, subst, arith, le-ltb, lt-ltb}
+use Rattle.std.proofs.Common.{◌≡◌, ℕ, zero, suc, ◌+◌, ◌-◌, ◌*◌, ◌/◌, ◌%◌, ◌<◌, ◌≤◌, Bool, true, false, cond, ◌&&◌, List, [], ◌∷◌, ℤ, pos, negsuc, Some, None, Option, Ok, sym, refl, ap, ◌∙◌, subst, ⊎_elim, add-zero, add-suc, suc-add, zero-add, arith, le-ltb, lt-ltb, le-leb}
 use lib.Signed.{le_z}
 use Rattle.std.specs.Option.{option_map, ok_or}
 use Rattle.std.specs.List.{slice_get}
 use Rattle.std.proofs.lemmas.Int.{ints}
+use Rattle.std.proofs.str.Laws.{order}
 use Rattle.reckoning.specs.declared.Comparison.TheVariants.{Equal, NotEqual, Less, AtMost, Greater, AtLeast}
 use Rattle.reckoning.specs.declared.Operator.TheVariants.{Add, Subtract, Multiply, Divide, Remainder, Compare}
 use Rattle.instructions.specs.declared.set.Instruction.{Instruction}
 use Rattle.instructions.specs.declared.set.Instruction.TheVariants.{Halt, LoadConstant, LoadRelative, Load, Store, Pop, Operate, Negate, Not, Jump, JumpZero, Mark, Call, Enter, Allocate, Return, Check}
-use Rattle.instructions.specs.Words.{table, signed, decoded, number, operand, low_bits, encoded}
+use Rattle.instructions.specs.Words.{table, signed, decoded, number, operand, low_bits, encoded, takes, plain}
 
 -- an operand of 24 bits
 abbrev short : ℤ → Bool
@@ -77,3 +78,49 @@ encoded_is i w fits is = rw fits (ap Some is)
 
 pub instruction_back : (i : Instruction) (w : ℕ) → encoded i ≡ Some w → decoded w ≡ Some i
 instruction_back i w is = word_by i (short (operand i)) w refl is
+
+-- the n-th entry of the table makes instructions with number n, which keep an operand that they take
+abbrev Entry : ℕ → (ℤ → Instruction) → Type 0
+Entry n f = (z : ℤ) → (number (f z) ≡ n) × (operand (f z) ≡ cond (takes n) z (pos 0))
+
+abbrev Entries : ℕ → List (ℤ → Instruction) → Type 0
+Entries n [] = Unit {0}
+Entries n (f ∷ fs) = Entry n f × Entries (suc n) fs
+
+entries : Entries 0 table
+entries = (λ z. (refl, refl), (λ z. (refl, refl), (λ z. (refl, refl), (λ z. (refl, refl), (λ z. (refl, refl), (λ z. (refl, refl), (λ z. (refl, refl), (λ z. (refl, refl), (λ z. (refl, refl), (λ z. (refl, refl), (λ z. (refl, refl), (λ z. (refl, refl), (λ z. (refl, refl), (λ z. (refl, refl), (λ z. (refl, refl), (λ z. (refl, refl), (λ z. (refl, refl), (λ z. (refl, refl), (λ z. (refl, refl), (λ z. (refl, refl), (λ z. (refl, refl), (λ z. (refl, refl), (λ z. (refl, refl), (λ z. (refl, refl), (λ z. (refl, refl), (λ z. (refl, refl), (λ z. (refl, refl), tt)))))))))))))))))))))))))))
+
+nth_entry : (fs : List (ℤ → Instruction)) (k n : ℕ) (f : ℤ → Instruction) → Entries k fs → slice_get fs n ≡ Some f → Entry (k + n) f
+nth_entry [] k n f all is = let clash : ◌≡◌ {A = ℕ} 0 1 = cc in absurd (omega arith)
+nth_entry (g ∷ fs) k zero f all is =
+    let same : g ≡ f = cc in
+    rw add-zero (subst (Entry k) same all.0)
+nth_entry (g ∷ fs) k (suc n) f all is = rw (add-suc, ← suc-add) (nth_entry fs (suc k) n f all.1 is)
+
+table_entry : (n : ℕ) (f : ℤ → Instruction) → slice_get table n ≡ Some f → Entry n f
+table_entry n f is = subst (λ k. Entry k f) (zero-add n) (nth_entry table 0 n f entries is)
+
+low_signed : (n : ℕ) → n < 16777216 → (short (signed n) ≡ true) × (low_bits (signed n) ≡ n)
+low_signed n small =
+    ⊎_elim
+    (λ low. rw (lt-ltb n 8388608 low) (le-leb n 8388607 (omega arith), refl))
+    (λ high. rw (le-ltb n 8388608 high) (rw (le-leb (16777215 - n) 8388607 (omega arith)), omega arith))
+    (order n 8388608)
+
+kept : (b : Bool) (n : ℕ) → n < 16777216 → (short (cond b (signed n) (pos 0)) ≡ true) × (low_bits (cond b (signed n) (pos 0)) ≡ cond b n 0)
+kept true n small = low_signed n small
+kept false n small = (refl, refl)
+
+encoded_at : (i : Instruction) (w : ℕ) (z : ℤ) → short z ≡ true → number i ≡ w / 16777216 → operand i ≡ z → low_bits z ≡ cond (takes (w / 16777216)) (w % 16777216) 0 → encoded i ≡ Some (plain w)
+encoded_at i w z fits n same low = rw (same, fits, n, low)
+
+word_from : (w : ℕ) (o : Option (ℤ → Instruction)) (i : Instruction) → slice_get table (w / 16777216) ≡ o → option_map (λ f. f (signed (w % 16777216))) o ≡ Some i → encoded i ≡ Some (plain w)
+word_from w (Some f) i found is =
+    let e = table_entry (w / 16777216) f found (signed (w % 16777216)) in
+    let same : f (signed (w % 16777216)) ≡ i = cc in
+    let k = kept (takes (w / 16777216)) (w % 16777216) (omega arith) in
+    encoded_at i w (cond (takes (w / 16777216)) (signed (w % 16777216)) (pos 0)) k.0 (sym (ap number same) ∙ e.0) (sym (ap operand same) ∙ e.1) k.1
+word_from w None i found is = cc
+
+pub word_back : (w : ℕ) (i : Instruction) → decoded w ≡ Some i → encoded i ≡ Some (plain w)
+word_back w i is = word_from w (slice_get table (w / 16777216)) i refl is

@@ -6,7 +6,7 @@ use borrow.Author.Tests.{apart_eqb}
 use lib.Signed.{le_z}
 use Rattle.std.specs.Option.{ok_or}
 use Rattle.std.specs.List.{slice_get}
-use Rattle.std.proofs.lemmas.Option.{slice_get_past, slice_get-get_or}
+use Rattle.std.proofs.lemmas.Option.{slice_get_read, slice_get_past, slice_get-get_or}
 use Rattle.std.proofs.lemmas.Int.{ints}
 use Rattle.std.proofs.str.Laws.{order}
 use Rattle.instructions.specs.declared.Stop.{Stop}
@@ -15,9 +15,17 @@ use Rattle.machine.specs.Instructions.{◌>>=◌, register, cell, put, read_afte
 use Rattle.machine.specs.Seen.{after}
 
 module _ {Cell : Type 0} (s : List Cell) where
+  pub cell_inside : (at : ℤ) (x : Cell) → le_z (pos 0) at ≡ true → nat_abs at < length s → x ≡ get_or s (nat_abs at) x → Ok x ≡ cell s at
+  cell_inside (pos a) x high low is = sym (ap (λ o. ok_or o Broken) (slice_get_read s (length s) a x refl low is))
+  cell_inside (negsuc a) x high low is = cc
+
   pub cell_past : (at : ℤ) → le_z (pos 0) at ≡ true → length s ≤ nat_abs at → Err Broken ≡ cell s at
   cell_past (pos a) high past = sym (ap (λ o. ok_or o Broken) (slice_get_past s a past))
   cell_past (negsuc a) high past = refl
+
+  pub cell_before : (at : ℤ) → le_z (pos 0) at ≡ false → Err Broken ≡ cell s at
+  cell_before (pos a) low = grind (arith, ints)
+  cell_before (negsuc a) low = refl
 
   -- there is a cell at i, or i is past the store
   pub inside_or_past : (i : ℕ) (d : Cell) → ((x : Cell) × (cell s (pos i) ≡ Ok x) × (ltb i (length s) ≡ true) × (i < length s)) ⊎ ((cell s (pos i) ≡ Err Broken) × (ltb i (length s) ≡ false))
@@ -65,6 +73,28 @@ module _ {Cell : Type 0} (s : List Cell) where
   pub clear_done : (c : Cell) (t : List Cell) (below : ℤ) (a k : ℕ) → (k ≡ 0 → ⊥) → natural (below +ℤ pos 1) ≡ Ok a → a + k ≤ length s → t ≡ cleared c s a k → (Ok tt, t) ≡ after s (clear c s below k)
   unfolding clear
   clear_done c t below a k some at fits is = rw (apart_eqb k 0 some, at, le-leb (a + k) (length s) fits) (ap (λ u. (Ok tt, u)) is)
+
+  natural_is : (z : ℤ) (b : ℕ) → natural z ≡ Ok b → z ≡ pos b
+  natural_is (pos n) b is = cc
+  natural_is (negsuc n) b is = cc
+
+  top_is : (sp : ℤ) (b : ℕ) → natural (sp -ℤ pos 1) ≡ Ok b → sp ≡ pos (b + 1)
+  top_is sp b is = let below = natural_is (sp -ℤ pos 1) b is in omega (arith, ints)
+
+  cell_at : (a : ℕ) (x : Cell) → a < length s → x ≡ get_or s a x → cell s (pos a) ≡ Ok x
+  cell_at a x low is = ap (λ o. ok_or o Broken) (slice_get_read s (length s) a x refl low is)
+
+  -- the two topmost cells, where the lower one is in the store, or the upper one past it
+  pub tops_inside : (sp : ℤ) (b : ℕ) (x y : Cell) → natural (sp -ℤ pos 1) ≡ Ok b → b + 1 < length s → x ≡ get_or s b x → y ≡ get_or s (b + 1) y → Ok (pos b, x, y) ≡ tops s sp
+  unfolding tops
+  tops_inside sp b x y below high left right =
+      rw (below, top_is sp b below, cell_at (b + 1) y high right, cell_at b x (omega arith) left)
+
+  pub tops_past : (sp : ℤ) (b : ℕ) → natural (sp -ℤ pos 1) ≡ Ok b → length s ≤ b + 1 → Err Broken ≡ tops s sp
+  unfolding tops
+  tops_past sp b below past =
+      let none : cell s (pos (b + 1)) ≡ Err Broken = ap (λ o. ok_or o Broken) (slice_get_past s (b + 1) past) in
+      rw (below, top_is sp b below, none)
 
   broken_first : (o : Option Cell) → ◌≡◌ {A = Result (ℤ × Cell × Cell) Stop} (Err Broken) (ok_or o Broken >>= λ c. Err Broken)
   broken_first (Some c) = refl

@@ -1,5 +1,6 @@
 -- Numbers read with a cap. Assumes nothing.
 use Rattle.std.proofs.Common.{◌≡◌, ℕ, ◌+◌, ◌-◌, ◌*◌, ◌<◌, ◌≤◌, Bool, true, false, cond, ◌&&◌, List, [], ◌∷◌, ℤ, Some, None, Ok, Err, Option, Result, int_le, OkIff, refl, ap, ◌∙◌, ⊎_elim, arith, w64, SFits}
+use lib.Signed.{le_z}
 use mir.Syntax.{w128}
 use Rattle.std.proofs.lemmas.Int.{ints}
 use Rattle.std.proofs.lemmas.Bool.{cases_lt}
@@ -37,6 +38,12 @@ capped_within negative low high (Some n) f g = ⊎_elim kept cut (cases_lt n 184
 
     cut : 18446744073709551615 ≤ n → read_within low high (Some (signed negative (cap n))) ≡ read_within low high (Some (signed negative n))
     cut h = rw (outside negative (cap n) low high f g (omega arith), outside negative n low high f g h) refl
+
+-- a number that is in range was not cut off
+pub in_range : (negative : Bool) (m : ℕ) (low high : ℤ) (o : Option ℕ) → SFits w64 low → SFits w64 high → le_z low (signed negative m) ≡ true → le_z (signed negative m) high ≡ true → Some m ≡ capped o → Ok (signed negative m) ≡ read_within low high (option_map (signed negative) o)
+in_range negative m low high o f g a b e =
+    let inside : Ok (signed negative m) ≡ read_within low high (Some (signed negative m)) = rw (a, b) refl in
+    inside ∙ ap (λ k. read_within low high (option_map (signed negative) k)) e ∙ capped_within negative low high o f g
 
 pub widened : (z : ℤ) → SFits w64 z → SFits w128 z
 widened z f = record { sfits = omega (arith, f.sfits) }
