@@ -33,7 +33,8 @@ pub fn first_word(line: &[u8]) -> Option<(&[u8], &[u8])>
         .iter()
         .position(u8::is_ascii_whitespace)
         .unwrap_or(rest.len());
-    Some(rest.split_at(end))
+    let (word, after) = rest.split_at(end);
+    Some((word, after))
 }
 
 // Whether a word is this name.

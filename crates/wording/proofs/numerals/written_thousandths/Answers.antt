@@ -1,4 +1,4 @@
-use Rattle.std.proofs.Common.{◌≡◌, ◌-◌, ◌/◌, ◌%◌, ◌^◌, ◌∷◌, ◌++◌, ◌∙◌, string_bytes, ap, rules, w32, SFits}
+use Rattle.std.proofs.Common.{◌≡◌, ◌-◌, ◌/◌, ◌%◌, ◌^◌, ◌∷◌, ◌++◌, ◌∙◌, string_bytes, ap, arith, rules, w32, SFits}
 use Rattle.std.specs.Fmt.{decimal, format_spec, styled_decimal}
 use Rattle.std.proofs.lemmas.Int.{to_z-of_z}
 use Rattle.std.proofs.lemmas.Result.{IfOk-weaker}
@@ -21,4 +21,4 @@ returns c =
       | else-thousandths-lt0 w ↦ written_from_zero c.args.thousandths _ sign abs (simp to_z-of_z at w.if-thousandths-lt0.false) (ap (λ b. b.now) w.sign-is)
     ]
     in
-    IfOk-weaker c.format.result _ (λ s. string_bytes s ≡ thousandths_written c.args.thousandths) (λ s h. h ∙ digits ∙ text) c.format.ensures.ok
+    IfOk-weaker c.format.result _ (λ s. string_bytes s ≡ thousandths_written c.args.thousandths) (λ s h. h ∙ ap (λ m. sign ++ (decimal (n / 1000) ++ (46 ∷ styled_decimal c.laid_out.result m))) (omega arith) ∙ digits ∙ text) c.format.ensures.ok

@@ -1,4 +1,4 @@
-use Rattle.std.proofs.Common.{ap, ◌∙◌, rules, tests}
+use Rattle.std.proofs.Common.{ap, ◌∙◌, rules, tests, arith}
 use Rattle.std.specs.Char.{is_ascii_whitespace}
 use Rattle.std.proofs.lemmas.List.{nil_from_length}
 use Rattle.std.proofs.lemmas.Iterator.{YieldsList-from_slice}
@@ -17,4 +17,5 @@ returns c =
     let rest = c.trim_ascii_start-rest.result.now in
     let at = position_from_yields_List is_ascii_whitespace _ _ _ c.position.ensures.ran (YieldsList-from_slice _ c.iter.ensures.rest) (λ x b q k. search (rules, tests)) in
     let end = or_all rest c.unwrap_or-end.result c.position.result at c.unwrap_or-end.ensures in
-    rw (c.split_at.ensures.front, c.split_at.ensures.back) (words_cut c.args.line.now rest c.unwrap_or-end.result c.trim_ascii_start-rest.ensures.value (search rules) end)
+    let cut = words_cut c.args.line.now rest c.unwrap_or-end.result c.trim_ascii_start-rest.ensures.value (search rules) end in
+    grind (arith, cut, c.split_at.ensures.front, c.split_at.ensures.back)

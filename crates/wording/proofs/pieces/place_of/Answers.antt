@@ -7,4 +7,5 @@ use Rattle.wording.proofs.pieces.place_of.Goals as goal
 pub returns : goal.returns
 returns c =
     let at = position_from_yields_List (is c.args.word.now) _ _ _ c.position.ensures.ran (YieldsList-from_slice _ c.iter.ensures.rest) (λ x b q k. search (rules, tests)) in
-    at ∙ sym (place_is c.args.word.now c.args.names.now)
+    let place = place_is c.args.word.now c.args.names.now in
+    search (rules, tests)
