@@ -59,7 +59,7 @@ module _ {C : Type 0} (m : Meaning C) (reads : List ℕ → Option C) (writes : 
   stops n line after s e out (inl x) o = inl (ap (λ l. (l, Some (fault (n + 1) e))) o ∙ sym (ap (told m reads writes (carried m reads writes (n + 1) after) n s) x))
   stops n line after s e out (inr x) o = inr ((n + 1, ap (λ k. Some (fault (n + 1) k)) x), begins_at out s.output _ o (carried_begins n (line ∷ after) s))
 
-  step_fails : (n : ℕ) (ls : List (List ℕ)) (line : List ℕ) (after : List (List ℕ)) (s t : State C) (e : Cause) → ls ≡ line ∷ after → Stepped (executed m writes) (Err e) s t (command reads (context s) (words line)) → Comes t.output (Some (fault (n + 1) e)) (carried m reads writes n ls s)
+  pub step_fails : (n : ℕ) (ls : List (List ℕ)) (line : List ℕ) (after : List (List ℕ)) (s t : State C) (e : Cause) → ls ≡ line ∷ after → Stepped (executed m writes) (Err e) s t (command reads (context s) (words line)) → Comes t.output (Some (fault (n + 1) e)) (carried m reads writes n ls s)
   step_fails n ls line after s t e h p = subst (λ k. Comes t.output (Some (fault (n + 1) e)) (carried m reads writes n k s)) (sym h) (stops n line after s e t.output p.0 p.1)
 
   -- the same where the cause is made into the fault of a line

@@ -293,7 +293,7 @@ covered_whole : (text : List ℕ) (r : Result (List Piece) Fault) → Covered 0 
 covered_whole text (Ok xs) h = (xs, refl, h)
 covered_whole text (Err e) h = tt
 
-tokens_whole : (text : List ℕ) (records : ℕ) → Whole text (number_of (tokens text records))
+pub tokens_whole : (text : List ℕ) (records : ℕ) → Whole text (number_of (tokens text records))
 tokens_whole text records = covered_whole text (tokens text records) (from_covered (min records 4096) 0 0 text zero-le)
 
 pub counted_whole : (text : List ℕ) (records : ℕ) (r : Result ℕ Fault) → r ≡ number_of (tokens text records) → Whole text r

@@ -74,7 +74,7 @@ shorter_cut c (b ∷ bs) = by (eqb b c) refl (shorter_cut c bs)
 abbrev pub IsFirst : List ℕ → Bor (List ℕ) × Bor (List ℕ) → Type 0
 IsFirst t p = (lines t ≡ p.0.now ∷ lines p.1.now) × (length p.1.now < length t)
 
-last_line : (t : List ℕ) → cut 10 t ≡ None → 0 < length t → lines t ≡ t ∷ []
+pub last_line : (t : List ℕ) → cut 10 t ≡ None → 0 < length t → lines t ≡ t ∷ []
 last_line [] e h = absurd (omega arith)
 last_line (b ∷ bs) e h = lines_cut (b ∷ bs) ∙ ap (lines_at (b ∷ bs)) e
 

@@ -21,7 +21,7 @@ start t = prefix_len is_ascii_whitespace t
 abbrev pub end : List ℕ → ℕ
 end t = position_or_len is_ascii_whitespace t
 
-words_skip : (t : List ℕ) → words t ≡ words (drop (start t) t)
+pub words_skip : (t : List ℕ) → words t ≡ words (drop (start t) t)
 words_skip [] = refl
 words_skip (b ∷ bs) = by (is_ascii_whitespace b) refl (words_skip bs)
   where
@@ -45,7 +45,7 @@ end_none : (t : List ℕ) → ends t ≡ true → end t ≡ 0
 end_none [] e = refl
 end_none (b ∷ bs) e = rw (sym (white_is b) ∙ e) refl
 
-words_front : (t : List ℕ) → ends t ≡ false → words t ≡ take (end t) t ∷ words (drop (end t) t)
+pub words_front : (t : List ℕ) → ends t ≡ false → words t ≡ take (end t) t ∷ words (drop (end t) t)
 words_front [] e = absurd (true≢false e)
 words_front (b ∷ bs) e = by (ends bs) refl (words_front bs)
   where
