@@ -28,6 +28,8 @@ impl Reckoning for Counts {
         }
     }
 
+    // This, the difference and the product are those of 64 bits, of which none is lost, as for Weights: one arithmetic
+    // (`wide`) with its own clauses for both, where checked_add and its likes would be a second one.
     fn add(left: i32, right: i32) -> Result<i32, Stop> {
         wide::narrow(wide::sum(left, right), i32::MIN, i32::MAX).ok_or(Stop::OutOfRange)
     }

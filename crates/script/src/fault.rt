@@ -2,7 +2,8 @@ use commands::Cause;
 use std::error::Error;
 use std::fmt;
 
-// The first line that cannot be carried out, from 1, and what is wrong with it.
+// The first line that cannot be carried out, from 1, and what is wrong with it. That it is from 1 on is said in clauses
+// (`from_one`): as a part of the type, which is public, it would be asked of whoever makes a fault or changes its line.
 #[derive(Clone, Copy, Debug, PartialEq, Eq, Drop)]
 pub struct Fault {
     pub line: usize,
